@@ -1,0 +1,4 @@
+pub mod Ring
+pub mod Elements
+pub mod Solved
+pub mod Products

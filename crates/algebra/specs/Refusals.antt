@@ -1,0 +1,28 @@
+-- What a field refuses: for each case its number, its layer and when it is due.
+use mathlib.Core.Path.{_≡_}
+use Prim.Native.Nat.{ℕ}
+use Rattle.algebra.specs.Operations.{Ops, In}
+use Rattle.algebra.specs.Roots.{Square}
+use Rattle.algebra.specs.declared.faults.FieldFault.{FieldFault}
+use Rattle.algebra.specs.declared.faults.FieldFault.the-variants.{UnlistedModulus, NotNonresidue, NotElement, NoRoot}
+use Rattle.algebra.specs.declared.faults.Layer.{Layer}
+use Rattle.algebra.specs.declared.faults.Layer.the-variants.{Field, Corrector, Unit}
+
+abbrev pub field-number : FieldFault → ℕ
+field-number UnlistedModulus = 1
+field-number NotNonresidue = 2
+field-number NotElement = 6
+field-number NoRoot = 7
+
+abbrev pub field-layer : FieldFault → Layer
+field-layer UnlistedModulus = Field
+field-layer NotNonresidue = Field
+field-layer NotElement = Field
+field-layer NoRoot = Field
+
+-- why the root of a is refused
+abbrev pub Refuses-root : {E : Type 0} → Ops E → E → FieldFault → Type 0
+Refuses-root o a NotElement = In o a → ⊥
+Refuses-root o a NoRoot = In o a × (Square o a → ⊥)
+Refuses-root o a UnlistedModulus = ⊥
+Refuses-root o a NotNonresidue = ⊥

@@ -1,0 +1,4 @@
+mod Appends
+mod Once
+mod Outcomes
+mod Streaming

@@ -1,0 +1,8 @@
+pub mod Refusals
+pub mod Conversation
+pub mod Handling
+pub mod Replies
+pub mod Stages
+pub mod Sessions
+pub mod Consoles
+pub mod Holding

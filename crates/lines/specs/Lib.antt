@@ -1,0 +1,3 @@
+-- The specification: how numbers and lines are written and read.
+pub mod Numbers
+pub mod Lines

@@ -1,0 +1,4 @@
+pub mod Primes
+pub mod Modular
+pub mod Making
+pub mod Exponents

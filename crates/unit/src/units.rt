@@ -1,0 +1,24 @@
+// Open and sealed units. Commissioning starts with an open unit; sealing fixes it for good.
+use crate::faults::UnitFault;
+use algebra::RootedField;
+
+// A unit on a field, before its generator and block length are fixed.
+#[derive(Drop)]
+pub struct Open<F: RootedField> {
+    pub(crate) field: F,
+}
+
+// A unit that keeps the generator alpha and the length of its blocks.
+#[derive(Drop)]
+pub struct Sealed<F: RootedField> {
+    pub(crate) field: F,
+    pub(crate) alpha: F::Elem,
+    pub(crate) length: usize,
+}
+
+// A refusal, with the open unit that it hands back.
+#[derive(Drop)]
+pub struct Rejected<F: RootedField> {
+    pub fault: UnitFault,
+    pub open: Open<F>,
+}
