@@ -29,7 +29,7 @@ pub trait Field {
     // what the field means
     ghost ops: { Self → Ops Self·Elem };
 
-    // the value is as the calls that make it leave it
+    // what the calls that make such a value show of it, and its methods rely on
     ghost sound: { Self → Type 0 };
 
     law laws: { (f : Self) → sound f → Laws (ops f) };

@@ -18,7 +18,7 @@ abbrev pub line-after : ℕ → ℕ
 line-after k = min (k + 1) (2 ^ 64 - 1)
 
 -- From a position (none: the session has ended) after k lines: the input still to come, and the output that it gets.
--- A line ends at byte 10 or with the input, and none begins where the input is over.
+-- Byte 10 ends a line, and so does the end of the input after at least one byte.
 pub data Session : Option Position → ℕ → List ℕ → List ℕ → Type 0 where
   ended : {k : ℕ} {input : List ℕ} → Session None k input []
   over : {s : Position} {k : ℕ} → Session (Some s) k [] []

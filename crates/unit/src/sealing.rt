@@ -17,7 +17,7 @@ impl<F: RootedField> Open<F> {
         Open { field }
     }
 
-    // Uses the unit up and gives a sealed one, or hands it back as it was.
+    // Fixes the generator and the block length. A refusal carries the open unit, unchanged.
     pub fn seal(self, alpha: F::Elem, length: usize) -> Result<Sealed<F>, Rejected<F>>
         requires { ⌜ F·Field .sound (self .field) ⌝ }
         ensures { λ r. ⌜ Cases r (λ u. Allowed (F·Field .ops (self .field)) alpha length × (u .field ≡ self .field) × (u .alpha ≡ alpha) × (u .length ≡ length)) (λ e. Refuses-sealing (F·Field .ops (self .field)) alpha length (e .fault) × (e .open ≡ self)) ⌝ }

@@ -1,4 +1,4 @@
-// Open and sealed units. Commissioning starts with an open unit; sealing fixes it for good.
+// Open and sealed units: an open one still lacks its generator and block length, a sealed one keeps them.
 use crate::faults::UnitFault;
 use algebra::RootedField;
 
