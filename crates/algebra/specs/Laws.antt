@@ -2,11 +2,11 @@
 use mathlib.Core.Path.{_≡_}
 use mathlib.Core.Bool.{true}
 use mathlib.Core.Logic.{_⊎_}
-use Prim.Native.Nat.{ℕ, _+_}
+use Prim.Native.Nat.{_+_}
 use Rattle.algebra.specs.Operations.{Ops, In}
 use Rattle.algebra.specs.Roots.{Square}
 
--- Sum, product, negative and inverse; that two differs from zero; and `same` tells equality.
+-- Every answer is an element; sum, product, negative and inverse; one and two differ from zero; and `same` tells equality.
 pub record Arithmetic {E : Type 0} (o : Ops E) : Type 0 where
   pub zero-in : In o (o .zero)
   pub one-in : In o (o .one)

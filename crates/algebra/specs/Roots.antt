@@ -1,7 +1,6 @@
 -- Squares and roots.
 use mathlib.Core.Path.{_≡_}
 use mathlib.Core.Logic.{_⊎_}
-use Prim.Native.Nat.{ℕ}
 use Rattle.std.specs.declared.option.Option.{Option}
 use Rattle.std.specs.Options.{Cases as BySome}
 use Rattle.algebra.specs.Operations.{Ops, In}
@@ -23,3 +22,7 @@ Answers-root o a r = BySome r (Square o a → ⊥) (RootOf o a)
 -- each element has a root, or no element squares to it
 abbrev pub Rooted : {E : Type 0} → Ops E → Type 0
 Rooted {E} o = (a : E) → In o a → ((x : E) × RootOf o a x) ⊎ (Square o a → ⊥)
+
+-- an element has one root at most
+abbrev pub Roots-are-unique : {E : Type 0} → Ops E → Type 0
+Roots-are-unique {E} o = (a x y : E) → RootOf o a x → RootOf o a y → x ≡ y

@@ -20,6 +20,7 @@ pub use faults::LayerEq;
 pub use faults::LayerPartialEq;
 pub use identities::ring_identities;
 pub use roots::find_root;
+pub use roots::roots_are_unique;
 
 // A field: a value that computes with elements of the type `Elem`.
 // Every method but `contains` is given elements, and leaves the field as it was.
@@ -74,7 +75,7 @@ pub trait Field {
         ensures value { λ r. ⌜ r ≡ ops (now (self .entry)) .inv a ⌝ }
         ensures inside { λ r. ⌜ In (ops (now (self .entry))) r ⌝ };
 
-    // The sign of a, 0 or 1: which of a and its negative it is.
+    // The sign of a: 0 or 1, and of an element other than zero the opposite of its negative's.
     fn sign(&self, a: Self::Elem) -> u8
         requires { ⌜ sound (now self) ⌝ ∗ ⌜ In (ops (now self)) a ⌝ }
         ensures { λ r. ⌜ r ≡ ops (now (self .entry)) .sign a ⌝ };
@@ -82,7 +83,7 @@ pub trait Field {
 
 // A field that also answers roots.
 pub trait RootedField: Field {
-    // what the field means decides which elements have a root
+    // in the field's meaning, each element has a root or is no square
     law rooted: { (f : Self) → Self·Field .sound f → Rooted (Self·Field .ops f) };
 
     // The element of sign 0 whose product with itself is a; absent exactly when there is none.

@@ -11,6 +11,7 @@ impl FieldFault {
         match self {
             FieldFault::UnlistedModulus => 1,
             FieldFault::NotNonresidue => 2,
+            FieldFault::NotNonsquare => 3,
             FieldFault::NotElement => 6,
             FieldFault::NoRoot => 7,
         }
@@ -22,6 +23,7 @@ impl FieldFault {
         match self {
             FieldFault::UnlistedModulus
             | FieldFault::NotNonresidue
+            | FieldFault::NotNonsquare
             | FieldFault::NotElement
             | FieldFault::NoRoot => Layer::Field,
         }

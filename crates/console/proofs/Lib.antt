@@ -1,4 +1,5 @@
 mod Appends
+mod Coordinated
 mod Once
 mod Outcomes
 mod Streaming

@@ -2,7 +2,7 @@ pub mod Refusals
 pub mod Conversation
 pub mod Handling
 pub mod Replies
+pub mod Commissions
 pub mod Stages
 pub mod Sessions
 pub mod Consoles
-pub mod Holding

@@ -1,4 +1,4 @@
--- What the program refuses: for each case its number and its layer. A refusal from below keeps its own.
+-- What the program refuses: for each case its number and its layer. A fault from below keeps its own.
 use Prim.Native.Nat.{ℕ}
 use Rattle.algebra.specs.Refusals.{field-number, field-layer}
 use Rattle.algebra.specs.declared.faults.Layer.{Layer}

@@ -1,197 +1,178 @@
 // What comes of each line, stage by stage.
 ghost use mathlib.Core.Path.{_≡_};
-ghost use mathlib.Core.List.{[], _∷_};
-ghost use Prim.Native.Nat.{ℕ};
-ghost use Rattle.std.specs.Of.Vec.{vec-items};
-ghost use Rattle.std.specs.Options.{Cases as BySome};
 ghost use Rattle.std.specs.Vec.{made};
-ghost use Rattle.std.specs.declared.option.Option.the-variants.{None};
-ghost use Rattle.std.specs.declared.result.Result.the-variants.{Err};
-ghost use Rattle.lines.specs.Lines.{prime, nonresidue, alpha, len, find, meant};
-ghost use Rattle.console.specs.Conversation.{begun, prime-fixed, field-made, alpha-fixed, sealed, Answers, Comes};
+ghost use Rattle.lines.specs.Lines.{meant, step};
+ghost use Rattle.console.specs.Conversation.{begun, prime-given, unit-on, unsealed, Answers};
 ghost use Rattle.console.specs.Handling.{Handled};
 ghost use Rattle.console.specs.Replies.{response};
-ghost use Rattle.console.specs.Stages.{position, position-of};
-ghost use Rattle.console.specs.declared.faults.ShiftFault.the-variants.{Unreadable};
+ghost use Rattle.console.specs.Stages.{position};
+ghost use Rattle.console.specs.declared.stages.Stage.the-variants as stages;
+ghost use Rattle.prime_field.specs.Modular.{modular};
+ghost use Rattle.quadratic.specs.Pairs.{Nonsquare, pairs};
+use crate::commissions::Commission;
+use crate::coordinates::Coordinates;
+use crate::coordinates::NumberCoordinates;
+use crate::coordinates::PairCoordinates;
 use crate::faults::ShiftFault;
-use crate::kinds::Answer;
-use crate::kinds::Reply;
+use crate::replies::Answer;
+use crate::replies::Reply;
+use crate::stages::Double;
+use crate::stages::Quadruple;
 use crate::stages::Stage;
+use crate::units::answer_unit;
+use crate::units::unreadable;
 use algebra::FieldFault;
-use algebra::find_root;
 use lines::Line;
 use lines::read_line;
 use prime_field::PrimeArithmetic;
 use prime_field::PrimeField;
 use prime_field::PrimeRoots;
 use prime_field::is_listed;
+use quadratic::Quad;
+use quadratic::QuadArithmetic;
+use quadratic::QuadRoots;
 use std::alloc::AllocError;
 use std::alloc::Global;
 use unit::Open;
-use unit::Sealed;
 
-fn fix_prime(p: u32) -> Answer
-    ensures { λ r. ⌜ Comes begun (prime p) (position-of (r .next)) (response (r .reply)) ⌝ }
+fn answer_start(k: u64, line: Line) -> Answer<Stage>
+    ensures { λ a. ⌜ Handled begun k (meant line) (position (a .left)) (response (a .reply)) ⌝ }
 {
-    if is_listed(p) {
-        Answer {
-            next: Some(Stage::Prime(p)),
-            reply: Ok(Reply::Prime),
-        }
-    } else {
-        ended(ShiftFault::Field(FieldFault::UnlistedModulus))
+    let Line::Prime(p) = line else {
+        return unreadable(Stage::Start, k);
+    };
+    if !is_listed(p) {
+        return Answer {
+            left: Stage::Start,
+            reply: Err(ShiftFault::Field(FieldFault::UnlistedModulus)),
+        };
+    }
+    Answer {
+        left: Stage::Prime(p),
+        reply: Ok(Reply::Prime),
     }
 }
 
-fn make_field(p: u32, r: u32) -> Answer
-    ensures { λ a. ⌜ Comes (prime-fixed p) (nonresidue r) (position-of (a .next)) (response (a .reply)) ⌝ }
+fn answer_prime(p: u32, k: u64, line: Line) -> Answer<Stage>
+    ensures { λ a. ⌜ Handled (prime-given p) k (meant line) (position (a .left)) (response (a .reply)) ⌝ }
 {
+    let Line::Nonresidue(r) = line else {
+        return unreadable(Stage::Prime(p), k);
+    };
     match PrimeField::new(p, r) {
         Ok(field) => Answer {
-            next: Some(Stage::Open(Open::new(field))),
+            left: Stage::Single(Commission::Open(Open::new(field))),
             reply: Ok(Reply::Nonresidue),
         },
-        Err(fault) => ended(ShiftFault::Field(fault)),
-    }
-}
-
-fn keep_alpha(unit: Open<PrimeField>, a: u32) -> Answer
-    ensures { λ r. ⌜ Comes (field-made (unit .field .modulus)) (alpha (a ∷ [])) (position-of (r .next)) (response (r .reply)) ⌝ }
-{
-    Answer {
-        next: Some(Stage::Generator(unit, a)),
-        reply: Ok(Reply::Alpha),
-    }
-}
-
-fn seal(unit: Open<PrimeField>, a: u32, n: u32) -> Answer
-    ensures { λ r. ⌜ Comes (alpha-fixed (unit .field .modulus) a) (len n) (position-of (r .next)) (response (r .reply)) ⌝ }
-{
-    match unit.seal(a, n as usize) {
-        Ok(sealed) => Answer {
-            next: Some(Stage::Sealed(sealed)),
-            reply: Ok(Reply::Length),
+        Err(fault) => Answer {
+            left: Stage::Prime(p),
+            reply: Err(ShiftFault::Field(fault)),
         },
-        Err(rejected) => ended(ShiftFault::Unit(rejected.fault)),
     }
 }
 
-fn answer_find(heap: Global, unit: Sealed<PrimeField>, x: u32) -> Result<Answer, AllocError>
-    ensures { λ r. ⌜ made r (λ a. Comes (sealed (unit .field .modulus) (unit .alpha) (unit .length)) (find (x ∷ [])) (position-of (a .next)) (response (a .reply))) ⌝ }
+fn answer_single(heap: Global, unit: Commission<PrimeField>, k: u64, line: Line) -> Result<Answer<Stage>, AllocError>
+    ensures { λ r. ⌜ made r (λ a. Handled (position (stages.Single unit)) k (meant line) (position (a .left)) (response (a .reply))) ⌝ }
 {
-    let reply = match find_root(unit.field(), x) {
-        Ok(root) => Ok(Reply::Find(vec![in heap; root]?)),
-        Err(fault) => Err(ShiftFault::Field(fault)),
+    let Line::Step(numbers) = line else {
+        let Answer { left, reply } = answer_unit(heap, unit, k, line)?;
+        return Ok(Answer {
+            left: Stage::Single(left),
+            reply,
+        });
     };
+    let Commission::Open(open) = unit else {
+        return Ok(unreadable(Stage::Single(unit), k));
+    };
+    Ok(step_single(open, k, numbers.as_slice()))
+}
+
+// The first step: from numbers to pairs.
+fn step_single(open: Open<PrimeField>, k: u64, numbers: &[u32]) -> Answer<Stage>
+    ensures { λ a. ⌜ Handled (unit-on 0 (modular («open» .field .modulus)) unsealed) k (step (now (numbers .entry))) (position (a .left)) (response (a .reply)) ⌝ }
+{
+    let Some(beta) = u32::from_numbers(numbers) else {
+        return unreadable(Stage::Single(Commission::Open(open)), k);
+    };
+    match open.step(beta) {
+        Ok(higher) => Answer {
+            left: Stage::Double(Double { unit: Commission::Open(higher) }),
+            reply: Ok(Reply::Step),
+        },
+        Err(rejected) => Answer {
+            left: Stage::Single(Commission::Open(rejected.open)),
+            reply: Err(ShiftFault::Unit(rejected.fault)),
+        },
+    }
+}
+
+fn answer_double(heap: Global, double: Double, k: u64, line: Line) -> Result<Answer<Stage>, AllocError>
+    ensures { λ r. ⌜ made r (λ a. Handled (position (stages.Double double)) k (meant line) (position (a .left)) (response (a .reply))) ⌝ }
+{
+    let Double { unit } = double;
+    let Line::Step(numbers) = line else {
+        let Answer { left, reply } = answer_unit(heap, unit, k, line)?;
+        return Ok(Answer {
+            left: Stage::Double(Double { unit: left }),
+            reply,
+        });
+    };
+    let Commission::Open(open) = unit else {
+        return Ok(unreadable(Stage::Double(Double { unit }), k));
+    };
+    Ok(step_double(open, k, numbers.as_slice()))
+}
+
+// The second step: from pairs to pairs of pairs.
+fn step_double(open: Open<Quad<PrimeField>>, k: u64, numbers: &[u32]) -> Answer<Stage>
+    requires { ⌜ Nonsquare (modular («open» .field .base .modulus)) («open» .field .beta) ⌝ }
+    ensures { λ a. ⌜ Handled (unit-on 1 (pairs (modular («open» .field .base .modulus)) («open» .field .beta)) unsealed) k (step (now (numbers .entry))) (position (a .left)) (response (a .reply)) ⌝ }
+{
+    let Some(beta) = <(u32, u32)>::from_numbers(numbers) else {
+        return unreadable(Stage::Double(Double { unit: Commission::Open(open) }), k);
+    };
+    match open.step(beta) {
+        Ok(higher) => Answer {
+            left: Stage::Quadruple(Quadruple { unit: Commission::Open(higher) }),
+            reply: Ok(Reply::Step),
+        },
+        Err(rejected) => Answer {
+            left: Stage::Double(Double { unit: Commission::Open(rejected.open) }),
+            reply: Err(ShiftFault::Unit(rejected.fault)),
+        },
+    }
+}
+
+fn answer_quadruple(heap: Global, quadruple: Quadruple, k: u64, line: Line) -> Result<Answer<Stage>, AllocError>
+    ensures { λ r. ⌜ made r (λ a. Handled (position (stages.Quadruple quadruple)) k (meant line) (position (a .left)) (response (a .reply))) ⌝ }
+{
+    let Quadruple { unit } = quadruple;
+    let Answer { left, reply } = answer_unit(heap, unit, k, line)?;
     Ok(Answer {
-        next: Some(Stage::Sealed(unit)),
+        left: Stage::Quadruple(Quadruple { unit: left }),
         reply,
     })
 }
 
-// A refusal that ends the session.
-fn ended(fault: ShiftFault) -> Answer
-    ensures { λ r. ⌜ r .next ≡ None ⌝ ∗ ⌜ r .reply ≡ Err fault ⌝ }
-{
-    Answer {
-        next: None,
-        reply: Err(fault),
-    }
-}
-
-// The element that is written with these numbers: in a prime field, the only one.
-fn element(numbers: &[u32]) -> Option<u32>
-    ensures { λ r. ⌜ BySome r ((x : ℕ) → now (numbers .entry) ≡ x ∷ [] → ⊥) (λ x. now (numbers .entry) ≡ x ∷ []) ⌝ }
-{
-    if numbers.len() == 1 {
-        Some(numbers[0])
-    } else {
-        None
-    }
-}
-
-// A line out of order.
-fn unreadable(k: u64) -> Answer
-    ensures { λ r. ⌜ r .next ≡ None ⌝ ∗ ⌜ r .reply ≡ Err (Unreadable k) ⌝ }
-{
-    ended(ShiftFault::Unreadable(k))
-}
-
-fn at_start(k: u64, line: Line) -> Answer
-    ensures { λ r. ⌜ Handled begun k (meant line) (position-of (r .next)) (response (r .reply)) ⌝ }
-{
-    let Line::Prime(p) = line else {
-        return unreadable(k);
-    };
-    fix_prime(p)
-}
-
-fn at_prime(p: u32, k: u64, line: Line) -> Answer
-    ensures { λ r. ⌜ Handled (prime-fixed p) k (meant line) (position-of (r .next)) (response (r .reply)) ⌝ }
-{
-    let Line::Nonresidue(r) = line else {
-        return unreadable(k);
-    };
-    make_field(p, r)
-}
-
-fn at_field(unit: Open<PrimeField>, k: u64, line: Line) -> Answer
-    ensures { λ r. ⌜ Handled (field-made (unit .field .modulus)) k (meant line) (position-of (r .next)) (response (r .reply)) ⌝ }
-{
-    let Line::Alpha(numbers) = line else {
-        return unreadable(k);
-    };
-    match element(numbers.as_slice()) {
-        Some(a) => keep_alpha(unit, a),
-        None => unreadable(k),
-    }
-}
-
-fn at_generator(unit: Open<PrimeField>, a: u32, k: u64, line: Line) -> Answer
-    ensures { λ r. ⌜ Handled (alpha-fixed (unit .field .modulus) a) k (meant line) (position-of (r .next)) (response (r .reply)) ⌝ }
-{
-    let Line::Length(n) = line else {
-        return unreadable(k);
-    };
-    seal(unit, a, n)
-}
-
-fn at_sealed(
-    heap: Global,
-    unit: Sealed<PrimeField>,
-    k: u64,
-    line: Line,
-) -> Result<Answer, AllocError>
-    ensures { λ r. ⌜ made r (λ a. Handled (sealed (unit .field .modulus) (unit .alpha) (unit .length)) k (meant line) (position-of (a .next)) (response (a .reply))) ⌝ }
-{
-    let Line::Find(numbers) = line else {
-        return Ok(unreadable(k));
-    };
-    match element(numbers.as_slice()) {
-        Some(x) => answer_find(heap, unit, x),
-        None => Ok(unreadable(k)),
-    }
-}
-
 // What comes of line number k, once it is read.
-fn answer_read(heap: Global, stage: Stage, k: u64, line: Line) -> Result<Answer, AllocError>
-    ensures { λ r. ⌜ made r (λ a. Handled (position stage) k (meant line) (position-of (a .next)) (response (a .reply))) ⌝ }
+fn answer_read(heap: Global, stage: Stage, k: u64, line: Line) -> Result<Answer<Stage>, AllocError>
+    ensures { λ r. ⌜ made r (λ a. Handled (position stage) k (meant line) (position (a .left)) (response (a .reply))) ⌝ }
 {
     match stage {
-        Stage::Start => Ok(at_start(k, line)),
-        Stage::Prime(p) => Ok(at_prime(p, k, line)),
-        Stage::Open(unit) => Ok(at_field(unit, k, line)),
-        Stage::Generator(unit, a) => Ok(at_generator(unit, a, k, line)),
-        Stage::Sealed(unit) => at_sealed(heap, unit, k, line),
+        Stage::Start => Ok(answer_start(k, line)),
+        Stage::Prime(p) => Ok(answer_prime(p, k, line)),
+        Stage::Single(unit) => answer_single(heap, unit, k, line),
+        Stage::Double(double) => answer_double(heap, double, k, line),
+        Stage::Quadruple(quadruple) => answer_quadruple(heap, quadruple, k, line),
     }
 }
 
 // What comes of line number k, which has these bytes before its end.
-pub fn answer_line(heap: Global, stage: Stage, k: u64, bytes: &[u8]) -> Result<Answer, AllocError>
-    ensures { λ r. ⌜ made r (λ a. Answers (position stage) k (now (bytes .entry)) (position-of (a .next)) (response (a .reply))) ⌝ }
+pub fn answer_line(heap: Global, stage: Stage, k: u64, bytes: &[u8]) -> Result<Answer<Stage>, AllocError>
+    ensures { λ r. ⌜ made r (λ a. Answers (position stage) k (now (bytes .entry)) (position (a .left)) (response (a .reply))) ⌝ }
 {
     match read_line(heap, bytes)? {
         Some(line) => answer_read(heap, stage, k, line),
-        None => Ok(unreadable(k)),
+        None => Ok(unreadable(stage, k)),
     }
 }

@@ -5,8 +5,8 @@ use crate::stages::Stage;
 
 #[derive(Drop)]
 pub struct Console {
-    // None once the session has ended.
-    pub(crate) stage: Option<Stage>,
+    pub(crate) stage: Stage,
+    pub(crate) ended: bool,
     pub(crate) lines: u64,
     pub(crate) held: Vec<u8>,
     ghost line: { Held (vec-items held) },

@@ -1,22 +1,23 @@
 // Feeding a console: its input is cut into lines, and each is answered at its end.
-ghost use mathlib.Core.Bool.{not};
+ghost use mathlib.Core.List.{List, [], _∷_, _++_};
 ghost use mathlib.Core.Path.{_≡_};
-ghost use mathlib.Core.List.{List, [], _++_};
-ghost use Prim.Native.Nat.{ℕ, _<_};
-ghost use lib.ListN.{length};
+ghost use Prim.Native.Nat.{ℕ};
+ghost use Rattle.console.specs.Consoles.{Answers-held, Answers-one, Holds, Refuses-held, Writes-last, Writes-one, waiting};
+ghost use Rattle.console.specs.Conversation.{Response, ends};
+ghost use Rattle.console.specs.Replies.{response};
+ghost use Rattle.console.specs.Sessions.{Answered-once, Continues, Output, Responds, initial};
 ghost use Rattle.std.specs.Of.Vec.{vec-items};
-ghost use Rattle.std.specs.Options.{Cases as BySome, isSome};
+ghost use Rattle.std.specs.Options.{Cases as BySome};
 ghost use Rattle.std.specs.Pieces.{Lacks};
 ghost use Rattle.std.specs.Vec.{made};
-ghost use Rattle.console.specs.Consoles.{waiting};
-ghost use Rattle.console.specs.Holding.{Answers-held, Holds, Refuses-held};
-ghost use Rattle.console.specs.Sessions.{Answered-once, Gives, Output, Reads-on, at-first};
 use crate::answers::answer_line;
 use crate::console::Console;
 use crate::faults::ShiftFault;
-use crate::kinds::Answer;
-use crate::replies::put_reply;
+use crate::replies::Answer;
+use crate::replies::Answered;
+use crate::replies::Reply;
 use crate::stages::Stage;
+use crate::writing::put_reply;
 use lines::cut;
 use std::alloc::AllocError;
 use std::alloc::Global;
@@ -25,10 +26,11 @@ const LONGEST: usize = 49152;
 
 impl Console {
     pub fn new(heap: Global) -> Console
-        ensures { λ r. ⌜ waiting r ≡ at-first ⌝ }
+        ensures { λ r. ⌜ waiting r ≡ initial ⌝ }
     {
         Console {
-            stage: Some(Stage::Start),
+            stage: Stage::Start,
+            ended: false,
             lines: 0,
             held: Vec::new(heap),
         }
@@ -36,62 +38,45 @@ impl Console {
 
     // Whether the session has ended, so that no further input matters.
     pub fn ended(&self) -> bool
-        ensures { λ r. ⌜ r ≡ not (isSome (waiting (now (self .entry)) .position)) ⌝ }
+        ensures { λ r. ⌜ r ≡ waiting (now (self .entry)) .ended ⌝ }
     {
-        self.stage.is_none()
+        self.ended
     }
 
-    // Reads a piece of the input, and appends the replies to the lines that end in it.
-    pub fn feed(&mut self, piece: &[u8], out: &mut Vec<u8>) -> Result<(), AllocError>
-        ensures { λ r. ⌜ made r (λ _. Reads-on (waiting (now (self .entry))) (now (piece .entry)) (vec-items (now (out .entry))) (waiting (now (self .exit))) [] (vec-items (now (out .exit)))) ⌝ }
+    // Reads up to the end of one line, and answers it. Where no line ends in the piece, all of it is read.
+    pub fn feed_line<'a>(&mut self, piece: &'a [u8]) -> Result<Option<Answered<'a>>, AllocError>
+        ensures { λ r. ⌜ made r (λ o. BySome o (Continues (waiting (now (self .entry))) (now (piece .entry)) [] (waiting (now (self .exit))) []) (λ a. Answers-one (waiting (now (self .entry))) (now (piece .entry)) (response (a .reply)) (waiting (now (self .exit))) (a .rest .now))) ⌝ }
     {
-        let mut rest = piece;
-        while let Some(more) = self.feed_line(rest, out)? {
-            rest = more;
+        if self.ended {
+            return Ok(None);
         }
-        Ok(())
+        let Some((front, rest)) = cut(piece, b'\n') else {
+            if self.hold(piece)? {
+                return Ok(None);
+            }
+            return Ok(Some(Answered {
+                reply: self.refuse_held(),
+                rest: &piece[piece.len()..],
+            }));
+        };
+        if !self.hold(front)? {
+            return Ok(Some(Answered {
+                reply: self.refuse_held(),
+                rest,
+            }));
+        }
+        let reply = self.answer_held()?;
+        Ok(Some(Answered { reply, rest }))
     }
 
     // The input is over: a line that has begun ends here.
-    pub fn finish(mut self, out: &mut Vec<u8>) -> Result<(), AllocError>
-        ensures { λ r. ⌜ made r (λ _. (o : List ℕ) × Gives (waiting self) [] o × (vec-items (now (out .exit)) ≡ vec-items (now (out .entry)) ++ o)) ⌝ }
+    pub fn finish(mut self) -> Result<Option<Result<Reply, ShiftFault>>, AllocError>
+        ensures { λ r. ⌜ made r (λ o. BySome o (Responds (waiting self) [] []) (λ reply. Responds (waiting self) [] (response reply ∷ []))) ⌝ }
     {
-        if self.held.is_empty() {
-            return Ok(());
-        }
-        self.answer_held(out)?;
-        Ok(())
-    }
-
-    // Reads up to the end of one line, appends the reply to it, and hands back what comes after it:
-    // nothing where the piece, or the session, ends first.
-    pub fn feed_line<'a>(
-        &mut self,
-        bytes: &'a [u8],
-        out: &mut Vec<u8>,
-    ) -> Result<Option<&'a [u8]>, AllocError>
-        ensures { λ r. ⌜ made r (λ o. BySome o (Reads-on (waiting (now (self .entry))) (now (bytes .entry)) (vec-items (now (out .entry))) (waiting (now (self .exit))) [] (vec-items (now (out .exit)))) (λ more. (length (more .now) < length (now (bytes .entry))) × Reads-on (waiting (now (self .entry))) (now (bytes .entry)) (vec-items (now (out .entry))) (waiting (now (self .exit))) (more .now) (vec-items (now (out .exit))))) ⌝ }
-    {
-        if self.stage.is_none() {
+        if self.ended || self.held.is_empty() {
             return Ok(None);
         }
-        match cut(bytes, b'\n') {
-            Some((front, more)) => {
-                if !self.hold(front)? {
-                    self.refuse_held(out)?;
-                    return Ok(None);
-                }
-                self.answer_held(out)?;
-                Ok(Some(more))
-            }
-            None => {
-                if self.hold(bytes)? {
-                    return Ok(None);
-                }
-                self.refuse_held(out)?;
-                Ok(None)
-            }
-        }
+        Ok(Some(self.answer_held()?))
     }
 
     // Holds a part of a line too, unless the line is then too long.
@@ -106,33 +91,64 @@ impl Console {
         Ok(true)
     }
 
-    // Answers the line held, which has ended, if the session has not.
-    fn answer_held(&mut self, out: &mut Vec<u8>) -> Result<(), AllocError>
-        ensures { λ r. ⌜ made r (λ _. Answers-held (waiting (now (self .entry))) (vec-items (now (out .entry))) (waiting (now (self .exit))) (vec-items (now (out .exit)))) ⌝ }
+    // Answers the line held, which has ended.
+    fn answer_held(&mut self) -> Result<Result<Reply, ShiftFault>, AllocError>
+        ensures { λ r. ⌜ made r (λ reply. Answers-held (waiting (now (self .entry))) (waiting (now (self .exit))) (response reply)) ⌝ }
     {
-        let Some(stage) = self.stage.take() else {
-            return Ok(());
-        };
         self.lines = self.lines.saturating_add(1);
-        let answer = answer_line(
-            self.held.allocator(),
-            stage,
-            self.lines,
-            self.held.as_slice(),
-        )?;
+        let stage = std::mem::replace(&mut self.stage, Stage::Start);
+        let answer = answer_line(self.held.allocator(), stage, self.lines, self.held.as_slice())?;
         self.held.clear();
-        let Answer { next, reply } = answer;
-        self.stage = next;
-        put_reply(out, &reply)
+        let Answer { left, reply } = answer;
+        self.stage = left;
+        self.ended = ends_session(&reply);
+        Ok(reply)
     }
 
     // Refuses the line held as too long, which ends the session.
-    fn refuse_held(&mut self, out: &mut Vec<u8>) -> Result<(), AllocError>
-        ensures { λ r. ⌜ made r (λ _. Refuses-held (waiting (now (self .entry))) (vec-items (now (out .entry))) (waiting (now (self .exit))) (vec-items (now (out .exit)))) ⌝ }
+    fn refuse_held(&mut self) -> Result<Reply, ShiftFault>
+        ensures { λ r. ⌜ Refuses-held (waiting (now (self .entry))) (waiting (now (self .exit))) (response r) ⌝ }
     {
         self.lines = self.lines.saturating_add(1);
-        self.stage = None;
-        put_reply(out, &Err(ShiftFault::Unreadable(self.lines)))
+        self.ended = true;
+        Err(ShiftFault::Unreadable(self.lines))
+    }
+}
+
+// The refusals 1 to 5 and 14 end the session.
+fn ends_session(reply: &Result<Reply, ShiftFault>) -> bool
+    ensures { λ r. ⌜ r ≡ ends (response (now (reply .entry))) ⌝ }
+{
+    match reply {
+        Ok(_) => false,
+        Err(fault) => {
+            let number = fault.number();
+            number <= 5 || number == 14
+        }
+    }
+}
+
+impl Console {
+    // Feeds a line, and writes the reply: the rest of the piece, where a line ended in it.
+    pub fn write_line<'a>(&mut self, piece: &'a [u8], out: &mut Vec<u8>) -> Result<Option<&'a [u8]>, AllocError>
+        ensures { λ r. ⌜ made r (λ o. BySome o (Continues (waiting (now (self .entry))) (now (piece .entry)) [] (waiting (now (self .exit))) [] × (vec-items (now (out .exit)) ≡ vec-items (now (out .entry)))) (λ rest. Writes-one (waiting (now (self .entry))) (now (piece .entry)) (waiting (now (self .exit))) (rest .now) (vec-items (now (out .entry))) (vec-items (now (out .exit))))) ⌝ }
+    {
+        let Some(answered) = self.feed_line(piece)? else {
+            return Ok(None);
+        };
+        put_reply(out, &answered.reply)?;
+        Ok(Some(answered.rest))
+    }
+
+    // Finishes, and writes the reply to a line that ends with the input.
+    pub fn write_last(self, out: &mut Vec<u8>) -> Result<(), AllocError>
+        ensures { λ r. ⌜ made r (λ _. Writes-last (waiting self) (vec-items (now (out .entry))) (vec-items (now (out .exit)))) ⌝ }
+    {
+        let Some(reply) = self.finish()? else {
+            return Ok(());
+        };
+        put_reply(out, &reply)?;
+        Ok(())
     }
 }
 
@@ -142,12 +158,16 @@ pub fn respond(heap: Global, input: &[u8]) -> Result<Vec<u8>, AllocError>
 {
     let mut console = Console::new(heap);
     let mut out = Vec::new(heap);
-    console.feed(input, &mut out)?;
-    console.finish(&mut out)?;
+    let mut rest = input;
+    while let Some(more) = console.write_line(rest, &mut out)? {
+        rest = more;
+    }
+    console.write_last(&mut out)?;
     Ok(out)
 }
 
-// An input has one output, however it is cut into pieces.
+// An input has one output.
 pub fn input_has_one_output()
     ensures { λ _. ⌜ Answered-once ⌝ }
-{}
+{
+}

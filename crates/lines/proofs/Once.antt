@@ -6,7 +6,7 @@ use native.Mathlib.Omega.{arith}
 use lib.Chars.{codes}
 use Rattle.std.proofs.shelf.Lists.{append-cancel-left}
 use Rattle.lines.specs.Numbers.{numeral, spelled, Fits32, NumberList}
-use Rattle.lines.specs.Lines.{Content, prime, nonresidue, alpha, len, find, Proper, written, Written-once}
+use Rattle.lines.specs.Lines.{Content, prime, nonresidue, step, alpha, len, find, Proper, written, Written-once}
 use Rattle.lines.proofs.Numerals.{numeral-injective}
 use Rattle.lines.proofs.Spelled.{spelled-injective}
 
@@ -14,6 +14,7 @@ use Rattle.lines.proofs.Spelled.{spelled-injective}
 number-of : Content → ℕ
 number-of (prime v) = v
 number-of (nonresidue v) = v
+number-of (step vs) = 0
 number-of (alpha vs) = 0
 number-of (len v) = v
 number-of (find vs) = 0
@@ -21,6 +22,7 @@ number-of (find vs) = 0
 list-of : Content → List ℕ
 list-of (prime v) = []
 list-of (nonresidue v) = []
+list-of (step vs) = vs
 list-of (alpha vs) = vs
 list-of (len v) = []
 list-of (find vs) = vs
@@ -38,6 +40,7 @@ pub written-once : Written-once
 unfolding number-of list-of
 written-once (prime u) t g h e = same-key numeral Fits32 numeral-injective prime (codes "prime=") (λ v. refl) (λ v p. p) u (number-of t) t g h e (grind arith)
 written-once (nonresidue u) t g h e = same-key numeral Fits32 numeral-injective nonresidue (codes "nonresidue=") (λ v. refl) (λ v p. p) u (number-of t) t g h e (grind arith)
+written-once (step us) t g h e = same-key spelled NumberList list-injective step (codes "step=") (λ vs. refl) (λ vs p. p) us (list-of t) t g h e (grind arith)
 written-once (alpha us) t g h e = same-key spelled NumberList list-injective alpha (codes "alpha=") (λ vs. refl) (λ vs p. p) us (list-of t) t g h e (grind arith)
 written-once (len u) t g h e = same-key numeral Fits32 numeral-injective len (codes "length=") (λ v. refl) (λ v p. p) u (number-of t) t g h e (grind arith)
 written-once (find us) t g h e = same-key spelled NumberList list-injective find (codes "find=") (λ vs. refl) (λ vs p. p) us (list-of t) t g h e (grind arith)

@@ -6,12 +6,13 @@ use lib.Chars.{codes}
 use Rattle.std.specs.Of.Vec.{vec-items}
 use Rattle.lines.specs.Numbers.{numeral, spelled, Fits32, NumberList}
 use Rattle.lines.specs.declared.Line.{Line}
-use Rattle.lines.specs.declared.Line.the-variants.{Prime, Nonresidue, Alpha, Length, Find}
+use Rattle.lines.specs.declared.Line.the-variants.{Prime, Nonresidue, Step, Alpha, Length, Find}
 
 -- what a line says: a key with its value, a number or the numbers of a field element
 pub data Content : Type 0 where
   prime : ℕ → Content
   nonresidue : ℕ → Content
+  step : List ℕ → Content
   alpha : List ℕ → Content
   len : ℕ → Content
   find : List ℕ → Content
@@ -20,6 +21,7 @@ pub data Content : Type 0 where
 abbrev pub meant : Line → Content
 meant (Prime v) = prime v
 meant (Nonresidue v) = nonresidue v
+meant (Step vs) = step (vec-items vs)
 meant (Alpha vs) = alpha (vec-items vs)
 meant (Length v) = len v
 meant (Find vs) = find (vec-items vs)
@@ -28,14 +30,16 @@ meant (Find vs) = find (vec-items vs)
 abbrev pub written : Content → List ℕ
 written (prime v) = codes "prime=" ++ numeral v
 written (nonresidue v) = codes "nonresidue=" ++ numeral v
+written (step vs) = codes "step=" ++ spelled vs
 written (alpha vs) = codes "alpha=" ++ spelled vs
 written (len v) = codes "length=" ++ numeral v
 written (find vs) = codes "find=" ++ spelled vs
 
--- each number has 32 bits, and an element has at least one number
+-- each number has at most 32 bits, and an element has at least one number
 abbrev pub Proper : Content → Type 0
 Proper (prime v) = Fits32 v
 Proper (nonresidue v) = Fits32 v
+Proper (step vs) = NumberList vs
 Proper (alpha vs) = NumberList vs
 Proper (len v) = Fits32 v
 Proper (find vs) = NumberList vs

@@ -20,7 +20,7 @@ abbrev pub spelled : List ℕ → List ℕ
 spelled [] = []
 spelled (v ∷ vs) = numeral v ++ joined (λ w. 44 ∷ numeral w) vs
 
--- one number or more, each of 32 bits
+-- one number or more, each of at most 32 bits
 abbrev pub NumberList : List ℕ → Type 0
 NumberList vs = (0 < length vs) × All Fits32 vs
 

@@ -2,7 +2,7 @@
 //
 // A number is decimal, from 0 to 4294967295, with no sign and no leading zero. A field element is
 // one number or more, separated by commas; how many it needs depends on the field, so the caller
-// checks that. A line is `prime=N`, `nonresidue=N`, `alpha=E`, `length=N` or `find=E`, for a number
+// checks that. A line is `prime=N`, `nonresidue=N`, `step=E`, `alpha=E`, `length=N` or `find=E`, for a number
 // N and an element E. Any other bytes are no line.
 ghost use mathlib.Core.Path.{_≡_};
 ghost use mathlib.Core.List.{_∷_, _++_};
@@ -124,6 +124,7 @@ fn numbers_after(heap: Global, key: &[u8], text: &[u8]) -> Result<Option<Vec<u32
 pub enum Line {
     Prime(u32),
     Nonresidue(u32),
+    Step(Vec<u32>),
     Alpha(Vec<u32>),
     Length(u32),
     Find(Vec<u32>),
@@ -144,6 +145,10 @@ pub fn read_line(heap: Global, bytes: &[u8]) -> Result<Option<Line>, AllocError>
         },
         'n' => match number_after(b"onresidue=", rest) {
             Some(v) => Ok(Some(Line::Nonresidue(v))),
+            None => Ok(None),
+        },
+        's' => match numbers_after(heap, b"tep=", rest)? {
+            Some(vs) => Ok(Some(Line::Step(vs))),
             None => Ok(None),
         },
         'a' => match numbers_after(heap, b"lpha=", rest)? {

@@ -4,7 +4,7 @@ use mathlib.Core.Logic.{_⊎_}
 use Prim.Native.Nat.{ℕ, _<_}
 use Rattle.algebra.specs.Roots.{Square}
 use Rattle.algebra.specs.declared.faults.FieldFault.{FieldFault}
-use Rattle.algebra.specs.declared.faults.FieldFault.the-variants.{UnlistedModulus, NotNonresidue, NotElement, NoRoot}
+use Rattle.algebra.specs.declared.faults.FieldFault.the-variants.{UnlistedModulus, NotNonresidue, NotNonsquare, NotElement, NoRoot}
 use Rattle.prime_field.specs.Modular.{modular}
 
 -- the moduli that a field is made of
@@ -21,5 +21,6 @@ pub record Nonresidue (p r : ℕ) : Type 0 where
 abbrev pub Refuses-making : ℕ → ℕ → FieldFault → Type 0
 Refuses-making p r UnlistedModulus = Listed p → ⊥
 Refuses-making p r NotNonresidue = Listed p × (Nonresidue p r → ⊥)
+Refuses-making p r NotNonsquare = ⊥
 Refuses-making p r NotElement = ⊥
 Refuses-making p r NoRoot = ⊥

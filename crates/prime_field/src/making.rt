@@ -2,6 +2,7 @@
 ghost use mathlib.Core.Path.{_≡_};
 ghost use Prim.Native.Nat.{_*_, _%_, _^_, _<_};
 ghost use Rattle.prime_field.specs.Making.{Listed, Nonresidue, Refuses-making};
+ghost use Rattle.prime_field.specs.Modular.{power};
 ghost use Rattle.std.specs.Orderings.{Decides};
 ghost use Rattle.std.specs.Results.{Cases};
 use crate::PrimeField;
@@ -34,7 +35,7 @@ fn split_twos(n: u32) -> (u32, u32)
 impl PrimeField {
     // The field of a listed modulus, with a number that has no root in it.
     pub fn new(modulus: u32, nonresidue: u32) -> Result<PrimeField, FieldFault>
-        ensures { λ r. ⌜ Cases r (λ f. Listed modulus × Nonresidue modulus nonresidue × (f .modulus ≡ modulus)) (Refuses-making modulus nonresidue) ⌝ }
+        ensures { λ r. ⌜ Cases r (λ f. Listed modulus × Nonresidue modulus nonresidue × (f .modulus ≡ modulus) × (f .generator ≡ power modulus nonresidue (f .cofactor))) (Refuses-making modulus nonresidue) ⌝ }
     {
         if !is_listed(modulus) {
             return Err(FieldFault::UnlistedModulus);

@@ -13,6 +13,7 @@ fn main(rt: LibcRuntime) -> io::Result<()> {
     let mut console = Console::new(heap);
     let mut reply = Vec::new(heap);
     let mut piece = [0u8; PIECE];
+    // Nothing says that an input ends, so the pieces are counted.
     for _ in 0..u64::MAX {
         let n = input.read(&mut piece)?;
         if n == 0 {
@@ -23,7 +24,7 @@ fn main(rt: LibcRuntime) -> io::Result<()> {
             break;
         }
     }
-    console.finish(&mut reply)?;
+    console.write_last(&mut reply)?;
     output.write_all(reply.as_slice())
 }
 
@@ -35,12 +36,10 @@ fn answer(
     output: &mut impl Write,
 ) -> io::Result<()> {
     let mut rest = piece;
-    while let Some(more) = console.feed_line(rest, reply)? {
+    while let Some(more) = console.write_line(rest, reply)? {
         output.write_all(reply.as_slice())?;
         reply.clear();
         rest = more;
     }
-    output.write_all(reply.as_slice())?;
-    reply.clear();
     Ok(())
 }

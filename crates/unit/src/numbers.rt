@@ -9,6 +9,7 @@ impl UnitFault {
         ensures { λ r. ⌜ r ≡ unit-number self ⌝ }
     {
         match self {
+            UnitFault::Field(fault) => fault.number(),
             UnitFault::BlockLength => 4,
             UnitFault::Generator => 5,
         }
@@ -18,6 +19,7 @@ impl UnitFault {
         ensures { λ r. ⌜ r ≡ unit-layer self ⌝ }
     {
         match self {
+            UnitFault::Field(fault) => fault.layer(),
             UnitFault::BlockLength | UnitFault::Generator => Layer::Unit,
         }
     }

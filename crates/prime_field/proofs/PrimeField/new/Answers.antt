@@ -29,4 +29,4 @@ returns c =
     let (s, t) = c .split-twos-exponent .result in
     let h = listed-split p s t l (c .split-twos-exponent .ensures .whole) (c .split-twos-exponent .ensures .odd) in
     let order = sym (c .square-times .ensures .value) ∙ c .if-square-times-modulus .left in
-    (l, nonresidue h (c .args .nonresidue) (c .pow-generator .result) (c .pow-generator .ensures .value) (omega arith) (omega arith) order, refl)
+    (l, nonresidue h (c .args .nonresidue) (c .pow-generator .result) (c .pow-generator .ensures .value) (omega arith) (omega arith) order, refl, c .pow-generator .ensures .value)

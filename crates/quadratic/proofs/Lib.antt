@@ -1,0 +1,5 @@
+pub mod Squares
+pub mod PairLaws
+pub mod PairRoots
+pub mod Sgn0
+pub mod Heights
