@@ -1,1 +1,4 @@
 pub mod Generator
+pub mod Blocks
+pub mod Refusals
+pub mod Distance

@@ -1,26 +1,16 @@
-// Block codes over a field: so far, which elements may generate one.
-ghost use Rattle.code.specs.Generator.{Generates};
-ghost use Rattle.std.specs.Orderings.{Decides};
-use algebra::Field;
+// Block codes over a field: which elements may generate one, the sums of a block, and its refusals.
+mod distance;
+mod faults;
+mod generator;
+mod numbers;
+mod symbols;
+mod syndromes;
 
-// Whether alpha, which need not be an element, generates codes of blocks of n symbols.
-pub fn generates<F: Field>(field: &F, alpha: F::Elem, n: usize) -> bool
-    requires { ⌜ F·Field .sound (now field) ⌝ }
-    ensures { λ r. ⌜ Decides r (Generates (F·Field .ops (now (field .entry))) alpha n) ⌝ }
-{
-    if !field.contains(alpha) {
-        return false;
-    }
-    if field.equal(alpha, field.zero()) {
-        return false;
-    }
-    let one = field.one();
-    let mut power = alpha;
-    for _k in 1..n {
-        if field.equal(power, one) {
-            return false;
-        }
-        power = field.mul(alpha, power);
-    }
-    true
-}
+pub use distance::distance_five;
+pub use faults::CodeFault;
+pub use faults::CodeFaultDebug;
+pub use faults::CodeFaultEq;
+pub use faults::CodeFaultPartialEq;
+pub use generator::generates;
+pub use symbols::first_non_element;
+pub use syndromes::syndrome;

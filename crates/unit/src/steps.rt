@@ -3,7 +3,7 @@ ghost use mathlib.Core.Path.{_≡_};
 ghost use Rattle.algebra.specs.declared.faults.FieldFault.the-variants.{NotNonsquare};
 ghost use Rattle.quadratic.specs.Pairs.{Nonsquare};
 ghost use Rattle.std.specs.Results.{Cases};
-ghost use Rattle.unit.specs.declared.faults.UnitFault.the-variants as fault;
+ghost use Rattle.unit.specs.declared.faults.UnitFault.the-variants as faults;
 use crate::faults::UnitFault;
 use crate::units::Open;
 use crate::units::Rejected;
@@ -16,7 +16,7 @@ use quadratic::Unextended;
 
 // The field's refusal becomes the unit's, and the field goes back into an open unit.
 pub impl<F: RootedField> From<Unextended<F>> for Rejected<F> as RejectedFromUnextended {
-    ghost converts = { λ e r. (r .fault ≡ fault.Field (e .fault)) × (r .open .field ≡ e .base) };
+    ghost converts = { λ e r. (r .fault ≡ faults.Field (e .fault)) × (r .open .field ≡ e .base) };
 
     fn from(refusal: Unextended<F>) -> Rejected<F> {
         let Unextended { fault, base } = refusal;
@@ -31,7 +31,7 @@ impl<F: RootedField> Open<F> {
     // The unit on the field with a square root of beta added. A refusal carries the open unit, unchanged.
     pub fn step(self, beta: F::Elem) -> Result<Open<Quad<F>>, Rejected<F>>
         requires { ⌜ F·Field .sound (self .field) ⌝ }
-        ensures { λ r. ⌜ Cases r (λ u. Nonsquare (F·Field .ops (self .field)) beta × (u .field .base ≡ self .field) × (u .field .beta ≡ beta)) (λ e. (Nonsquare (F·Field .ops (self .field)) beta → ⊥) × (e .fault ≡ fault.Field NotNonsquare) × (e .open ≡ self)) ⌝ }
+        ensures { λ r. ⌜ Cases r (λ u. Nonsquare (F·Field .ops (self .field)) beta × (u .field .base ≡ self .field) × (u .field .beta ≡ beta)) (λ e. (Nonsquare (F·Field .ops (self .field)) beta → ⊥) × (e .fault ≡ faults.Field NotNonsquare) × (e .open ≡ self)) ⌝ }
     {
         let Open { field } = self;
         let field = Quad::new(field, beta)?;

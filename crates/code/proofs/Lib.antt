@@ -1,0 +1,6 @@
+pub mod Powers
+pub mod Polynomials
+pub mod Elimination
+pub mod Counting
+pub mod Differences
+pub mod MinimumDistance
