@@ -23,5 +23,4 @@ pub fn find_root<F: RootedField>(field: &F, a: F::Elem) -> Result<F::Elem, Field
 pub fn roots_are_unique<F: Field>(field: &F)
     requires { ⌜ F·Field .sound (now field) ⌝ }
     ensures { λ _. ⌜ Roots-are-unique (F·Field .ops (now (field .entry))) ⌝ }
-{
-}
+{}

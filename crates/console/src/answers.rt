@@ -71,7 +71,12 @@ fn answer_prime(p: u32, k: u64, line: Line) -> Answer<Stage>
     }
 }
 
-fn answer_single(heap: Global, unit: Commission<PrimeField>, k: u64, line: Line) -> Result<Answer<Stage>, AllocError>
+fn answer_single(
+    heap: Global,
+    unit: Commission<PrimeField>,
+    k: u64,
+    line: Line,
+) -> Result<Answer<Stage>, AllocError>
     ensures { λ r. ⌜ made r (λ a. Handled (position (stages.Single unit)) k (meant line) (position (a .left)) (response (a .reply))) ⌝ }
 {
     let Line::Step(numbers) = line else {
@@ -96,7 +101,9 @@ fn step_single(open: Open<PrimeField>, k: u64, numbers: &[u32]) -> Answer<Stage>
     };
     match open.step(beta) {
         Ok(higher) => Answer {
-            left: Stage::Double(Double { unit: Commission::Open(higher) }),
+            left: Stage::Double(Double {
+                unit: Commission::Open(higher),
+            }),
             reply: Ok(Reply::Step),
         },
         Err(rejected) => Answer {
@@ -106,7 +113,12 @@ fn step_single(open: Open<PrimeField>, k: u64, numbers: &[u32]) -> Answer<Stage>
     }
 }
 
-fn answer_double(heap: Global, double: Double, k: u64, line: Line) -> Result<Answer<Stage>, AllocError>
+fn answer_double(
+    heap: Global,
+    double: Double,
+    k: u64,
+    line: Line,
+) -> Result<Answer<Stage>, AllocError>
     ensures { λ r. ⌜ made r (λ a. Handled (position (stages.Double double)) k (meant line) (position (a .left)) (response (a .reply))) ⌝ }
 {
     let Double { unit } = double;
@@ -129,21 +141,35 @@ fn step_double(open: Open<Quad<PrimeField>>, k: u64, numbers: &[u32]) -> Answer<
     ensures { λ a. ⌜ Handled (unit-on 1 (pairs (modular («open» .field .base .modulus)) («open» .field .beta)) unsealed) k (step (now (numbers .entry))) (position (a .left)) (response (a .reply)) ⌝ }
 {
     let Some(beta) = <(u32, u32)>::from_numbers(numbers) else {
-        return unreadable(Stage::Double(Double { unit: Commission::Open(open) }), k);
+        return unreadable(
+            Stage::Double(Double {
+                unit: Commission::Open(open),
+            }),
+            k,
+        );
     };
     match open.step(beta) {
         Ok(higher) => Answer {
-            left: Stage::Quadruple(Quadruple { unit: Commission::Open(higher) }),
+            left: Stage::Quadruple(Quadruple {
+                unit: Commission::Open(higher),
+            }),
             reply: Ok(Reply::Step),
         },
         Err(rejected) => Answer {
-            left: Stage::Double(Double { unit: Commission::Open(rejected.open) }),
+            left: Stage::Double(Double {
+                unit: Commission::Open(rejected.open),
+            }),
             reply: Err(ShiftFault::Unit(rejected.fault)),
         },
     }
 }
 
-fn answer_quadruple(heap: Global, quadruple: Quadruple, k: u64, line: Line) -> Result<Answer<Stage>, AllocError>
+fn answer_quadruple(
+    heap: Global,
+    quadruple: Quadruple,
+    k: u64,
+    line: Line,
+) -> Result<Answer<Stage>, AllocError>
     ensures { λ r. ⌜ made r (λ a. Handled (position (stages.Quadruple quadruple)) k (meant line) (position (a .left)) (response (a .reply))) ⌝ }
 {
     let Quadruple { unit } = quadruple;
@@ -168,7 +194,12 @@ fn answer_read(heap: Global, stage: Stage, k: u64, line: Line) -> Result<Answer<
 }
 
 // What comes of line number k, which has these bytes before its end.
-pub fn answer_line(heap: Global, stage: Stage, k: u64, bytes: &[u8]) -> Result<Answer<Stage>, AllocError>
+pub fn answer_line(
+    heap: Global,
+    stage: Stage,
+    k: u64,
+    bytes: &[u8],
+) -> Result<Answer<Stage>, AllocError>
     ensures { λ r. ⌜ made r (λ a. Answers (position stage) k (now (bytes .entry)) (position (a .left)) (response (a .reply))) ⌝ }
 {
     match read_line(heap, bytes)? {

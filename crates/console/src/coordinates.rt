@@ -33,7 +33,11 @@ pub impl Coordinates for u32 as NumberCoordinates {
     ghost width = { 1 };
 
     fn from_numbers(numbers: &[u32]) -> Option<u32> {
-        if numbers.len() == 1 { Some(numbers[0]) } else { None }
+        if numbers.len() == 1 {
+            Some(numbers[0])
+        } else {
+            None
+        }
     }
 
     fn put(self, out: &mut Vec<u32>) -> Result<(), AllocError> {

@@ -97,7 +97,12 @@ impl Console {
     {
         self.lines = self.lines.saturating_add(1);
         let stage = std::mem::replace(&mut self.stage, Stage::Start);
-        let answer = answer_line(self.held.allocator(), stage, self.lines, self.held.as_slice())?;
+        let answer = answer_line(
+            self.held.allocator(),
+            stage,
+            self.lines,
+            self.held.as_slice(),
+        )?;
         self.held.clear();
         let Answer { left, reply } = answer;
         self.stage = left;
@@ -130,7 +135,11 @@ fn ends_session(reply: &Result<Reply, ShiftFault>) -> bool
 
 impl Console {
     // Feeds a line, and writes the reply: the rest of the piece, where a line ended in it.
-    pub fn write_line<'a>(&mut self, piece: &'a [u8], out: &mut Vec<u8>) -> Result<Option<&'a [u8]>, AllocError>
+    pub fn write_line<'a>(
+        &mut self,
+        piece: &'a [u8],
+        out: &mut Vec<u8>,
+    ) -> Result<Option<&'a [u8]>, AllocError>
         ensures { λ r. ⌜ made r (λ o. BySome o (Continues (waiting (now (self .entry))) (now (piece .entry)) [] (waiting (now (self .exit))) [] × (vec-items (now (out .exit)) ≡ vec-items (now (out .entry)))) (λ rest. Writes-one (waiting (now (self .entry))) (now (piece .entry)) (waiting (now (self .exit))) (rest .now) (vec-items (now (out .entry))) (vec-items (now (out .exit))))) ⌝ }
     {
         let Some(answered) = self.feed_line(piece)? else {
@@ -169,5 +178,4 @@ pub fn respond(heap: Global, input: &[u8]) -> Result<Vec<u8>, AllocError>
 // An input has one output.
 pub fn input_has_one_output()
     ensures { λ _. ⌜ Answered-once ⌝ }
-{
-}
+{}

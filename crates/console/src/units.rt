@@ -69,7 +69,12 @@ where
     }
 }
 
-fn answer_generator<F: RootedField + Drop>(unit: Open<F>, alpha: F::Elem, k: u64, line: Line) -> Answer<Commission<F>>
+fn answer_generator<F: RootedField + Drop>(
+    unit: Open<F>,
+    alpha: F::Elem,
+    k: u64,
+    line: Line,
+) -> Answer<Commission<F>>
 where
     F::Elem: Coordinates,
     requires { ⌜ F·Field .sound (unit .field) ⌝ }
@@ -90,7 +95,12 @@ where
     }
 }
 
-fn answer_sealed<F: RootedField + Drop>(heap: Global, unit: Sealed<F>, k: u64, line: Line) -> Result<Answer<Commission<F>>, AllocError>
+fn answer_sealed<F: RootedField + Drop>(
+    heap: Global,
+    unit: Sealed<F>,
+    k: u64,
+    line: Line,
+) -> Result<Answer<Commission<F>>, AllocError>
 where
     F::Elem: Coordinates,
     requires { ⌜ F·Field .sound (unit .field) ⌝ }
@@ -110,7 +120,11 @@ where
 }
 
 // The root of x, by its coordinates.
-fn answer_find<F: RootedField>(heap: Global, field: &F, x: F::Elem) -> Result<Result<Reply, ShiftFault>, AllocError>
+fn answer_find<F: RootedField>(
+    heap: Global,
+    field: &F,
+    x: F::Elem,
+) -> Result<Result<Reply, ShiftFault>, AllocError>
 where
     F::Elem: Coordinates,
     requires { ⌜ F·Field .sound (now field) ⌝ }

@@ -1,5 +1,4 @@
-// Fields and roots, against values computed elsewhere and against squares made by plain arithmetic.
-use algebra::FieldFault;
+// Fields and roots in them, against values computed elsewhere.
 use algebra::find_root;
 use prime_field::PrimeArithmetic;
 use prime_field::PrimeField;
@@ -59,51 +58,6 @@ pub fn makings() -> u32 {
         }
     }
     agreeing
-}
-
-// How many elements have a root, as they should, and how many have none, as they should.
-#[derive(Clone, Copy)]
-pub struct Tally {
-    pub squares: u32,
-    pub others: u32,
-}
-
-pub fn every_root(p: u32, r: u32) -> Tally {
-    let mut tally = Tally {
-        squares: 0,
-        others: 0,
-    };
-    let Ok(field) = PrimeField::new(p, r) else {
-        return tally;
-    };
-    for a in 0..p {
-        match find_root(&field, a) {
-            Ok(x) => {
-                if x % 2 == 0 && squares_to(p, x, a) {
-                    tally.squares = tally.squares.saturating_add(1);
-                }
-            }
-            Err(_) => {
-                if no_square(p, a) {
-                    tally.others = tally.others.saturating_add(1);
-                }
-            }
-        }
-    }
-    tally
-}
-
-fn squares_to(p: u32, x: u32, a: u32) -> bool {
-    p > 0 && u64::from(x) * u64::from(x) % u64::from(p) == u64::from(a)
-}
-
-fn no_square(p: u32, a: u32) -> bool {
-    for x in 0..p {
-        if squares_to(p, x, a) {
-            return false;
-        }
-    }
-    true
 }
 
 // Of the squares of 0 to 1999, how many have the even one of the two numbers as their root.

@@ -23,6 +23,7 @@ pub fn sealings() -> u32 {
         (929, 3, 3, 1025, 4),
         (929, 3, 3, 5, 0),
         (929, 3, 0, 5, 5),
+        (929, 3, 929, 5, 5),
     ];
     let mut agreeing = 0u32;
     for (p, r, alpha, length, expected) in table {
