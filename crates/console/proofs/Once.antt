@@ -56,6 +56,10 @@ module _ {E : Type 0} (o : Ops E) where
   unsealed-reason a n (unit-fault.Field f) h = absurd h
   unsealed-reason a n unit-fault.BlockLength h = inl (refl, h)
   unsealed-reason a n unit-fault.Generator h = inr (refl, h .0, h .1)
+  unsealed-reason a n (unit-fault.WrongState s) h = absurd h
+  unsealed-reason a n (unit-fault.BlockCount m) h = absurd h
+  unsealed-reason a n (unit-fault.OutOfTurn k) h = absurd h
+  unsealed-reason a n (unit-fault.Block k f) h = absurd h
 
   unsealed-once : (a : E) (n : ℕ) (e f : UnitFault) → Refuses-sealing o a n e → Refuses-sealing o a n f → e ≡ f
   unsealed-once a n e f h k =

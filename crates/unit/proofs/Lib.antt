@@ -1,0 +1,5 @@
+pub mod NextEvent
+pub mod Summary
+pub mod Lawful
+pub mod TaskEvents
+pub mod Tallies

@@ -3,7 +3,7 @@ use Prim.Native.Nat.{ℕ, _≤_}
 use Rattle.algebra.specs.Operations.{Ops}
 use Rattle.code.specs.Generator.{Generates}
 use Rattle.unit.specs.declared.faults.UnitFault.{UnitFault}
-use Rattle.unit.specs.declared.faults.UnitFault.the-variants.{Field, BlockLength, Generator}
+use Rattle.unit.specs.declared.faults.UnitFault.the-variants.{Field, BlockLength, Generator, WrongState, BlockCount, OutOfTurn, Block}
 
 -- a block has 5 to 1024 symbols
 abbrev pub Allowed-length : ℕ → Type 0
@@ -17,4 +17,8 @@ Allowed o α n = Allowed-length n × Generates o α n
 abbrev pub Refuses-sealing : {E : Type 0} → Ops E → E → ℕ → UnitFault → Type 0
 Refuses-sealing o α n BlockLength = Allowed-length n → ⊥
 Refuses-sealing o α n Generator = Allowed-length n × (Generates o α n → ⊥)
-Refuses-sealing o α n (Field e) = ⊥
+Refuses-sealing o α n (Field fault) = ⊥
+Refuses-sealing o α n (WrongState state) = ⊥
+Refuses-sealing o α n (BlockCount m) = ⊥
+Refuses-sealing o α n (OutOfTurn k) = ⊥
+Refuses-sealing o α n (Block k fault) = ⊥

@@ -1,15 +1,36 @@
-// Steering units: open while they are commissioned, then sealed.
+// Steering units: open while they are commissioned, then sealed and given orders.
+mod days;
 mod faults;
+mod moves;
 mod numbers;
+mod orders;
+mod progress;
+mod reports;
 mod sealing;
+mod states;
 mod steps;
+mod tasks;
 mod units;
+mod writing;
 
+pub use days::work_day;
 pub use faults::UnitFault;
 pub use faults::UnitFaultDebug;
 pub use faults::UnitFaultEq;
 pub use faults::UnitFaultPartialEq;
-pub use steps::RejectedFromUnextended;
+pub use reports::Report;
+pub use reports::ReportDebug;
+pub use reports::ReportEq;
+pub use reports::ReportPartialEq;
+pub use states::Kind;
+pub use states::KindDebug;
+pub use states::KindEq;
+pub use states::KindPartialEq;
+pub use states::State;
+pub use states::StateDebug;
+pub use states::StateEq;
+pub use states::StatePartialEq;
+pub use tasks::Task;
 pub use units::Open;
 pub use units::Rejected;
 pub use units::Sealed;

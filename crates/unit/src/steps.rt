@@ -3,6 +3,7 @@ ghost use mathlib.Core.Path.{_≡_};
 ghost use Rattle.algebra.specs.declared.faults.FieldFault.the-variants.{NotNonsquare};
 ghost use Rattle.quadratic.specs.Pairs.{Nonsquare};
 ghost use Rattle.std.specs.Results.{Cases};
+ghost use Rattle.std.specs.Vec.{made};
 ghost use Rattle.unit.specs.declared.faults.UnitFault.the-variants as faults;
 use crate::faults::UnitFault;
 use crate::units::Open;
@@ -31,7 +32,8 @@ impl<F: RootedField> Open<F> {
     // The unit on the field with a square root of beta added. A refusal carries the open unit, unchanged.
     pub fn step(self, beta: F::Elem) -> Result<Open<Quad<F>>, Rejected<F>>
         requires { ⌜ F·Field .sound (self .field) ⌝ }
-        ensures { λ r. ⌜ Cases r (λ u. Nonsquare (F·Field .ops (self .field)) beta × (u .field .base ≡ self .field) × (u .field .beta ≡ beta)) (λ e. (Nonsquare (F·Field .ops (self .field)) beta → ⊥) × (e .fault ≡ faults.Field NotNonsquare) × (e .open ≡ self)) ⌝ }
+        ensures answer { λ r. ⌜ Cases r (λ u. Nonsquare (F·Field .ops (self .field)) beta × (u .field .base ≡ self .field) × (u .field .beta ≡ beta)) (λ e. (Nonsquare (F·Field .ops (self .field)) beta → ⊥) × (e .fault ≡ faults.Field NotNonsquare) × (e .open ≡ self)) ⌝ }
+        ensures sound { λ r. ⌜ made r (λ u. F·Field .sound (u .field .base) × Nonsquare (F·Field .ops (u .field .base)) (u .field .beta)) ⌝ }
     {
         let Open { field } = self;
         let field = Quad::new(field, beta)?;

@@ -1,1 +1,3 @@
+mod BoundedTests
 mod Rootless
+mod CodeWords

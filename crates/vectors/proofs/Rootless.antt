@@ -1,35 +1,28 @@
--- Numbers with no root modulo p, by one computed test of every candidate.
-use mathlib.Core.Path.{_≡_, refl, sym, subst, _∙_}
-use mathlib.Core.Bool.{Bool, true, false, not, _&&_}
-use mathlib.Core.Logic.{_⊎_, inl, inr}
-use Prim.Native.Nat.{ℕ, zero, suc, _*_, _%_, _<_}
-use native.Mathlib.Nat as N
-use native.Mathlib.Omega.{arith}
-use lib.Dec.{eqb}
-use Rattle.std.proofs.shelf.Tests.{cases-eq, eq-eqb, ltb-true}
+-- Elements with no root, by one computed test of every candidate.
+use mathlib.Core.Path.{_≡_, ap}
+use mathlib.Core.Bool.{Bool, true, not}
+use Prim.Native.Nat.{ℕ, _*_, _%_}
+use lib.Dec.{eqb, ltb}
+use Rattle.std.proofs.shelf.Tests.{and-from, and-parts, both-ways, eq-eqb, eqb-false, ltb-true, not-true}
 use Rattle.algebra.specs.Roots.{Square}
 use Rattle.prime_field.specs.Modular.{modular}
+use Rattle.quadratic.specs.Pairs.{pairs}
+use Rattle.vectors.proofs.BoundedTests.{all-below, passes}
 
--- no number below n squares to a modulo p
-abbrev rootless? : ℕ → ℕ → ℕ → Bool
-rootless? p a zero = true
-rootless? p a (suc n) = not (eqb ((n * n) % p) a) && rootless? p a n
+-- x does not square to a modulo p
+abbrev no-root? : ℕ → ℕ → ℕ → Bool
+no-root? p a x = not (eqb ((x * x) % p) a)
 
-split : (b c : Bool) → (not b && c) ≡ true → (b ≡ false) × (c ≡ true)
-split true c e = let z : _≡_ {A = ℕ} 0 1 = cc in absurd (omega arith)
-split false c e = (refl, e)
+pub rootless : (p a : ℕ) → all-below (no-root? p a) p ≡ true → Square (modular p) a → ⊥
+rootless p a t (x, inside, e) = eqb-false _ _ (not-true _ (passes (no-root? p a) p t x (ltb-true x p inside))) e
 
-rootless-below : (p a n : ℕ) → rootless? p a n ≡ true → (x : ℕ) → x < n → (x * x) % p ≡ a → ⊥
-rootless-below p a zero t x l e = N.not-suc-le-zero l
-rootless-below p a (suc n) t x l e =
-    let (other, rest) = split (eqb ((n * n) % p) a) (rootless? p a n) t in
-    elim (cases-eq x n) [
-      | inl q ↦
-          (let same : eqb ((n * n) % p) a ≡ true = eq-eqb ((n * n) % p) a (subst (λ (v : ℕ). (v * v) % p ≡ a) q e) in
-          let z : _≡_ {A = ℕ} 0 1 = cc in
-          omega arith)
-      | inr q ↦ rootless-below p a n rest x (omega arith) e
-    ]
+-- the pair (x, y) does not square to a
+abbrev no-pair-root? : ℕ → ℕ → ℕ × ℕ → ℕ → ℕ → Bool
+no-pair-root? p β a x y = let o = pairs (modular p) β in not (o .same (o .mul (x, y) (x, y)) a)
 
-pub rootless : (p a : ℕ) → rootless? p a p ≡ true → Square (modular p) a → ⊥
-rootless p a t (x, inside, e) = rootless-below p a p t x (ltb-true x p inside) e
+pub pair-rootless : (p β : ℕ) (a : ℕ × ℕ) → all-below (λ x. all-below (no-pair-root? p β a x) p) p ≡ true → Square (pairs (modular p) β) a → ⊥
+pair-rootless p β a t (z, inside, e) =
+    let (low, high) = and-parts (ltb (z .0) p) (ltb (z .1) p) inside in
+    let row = passes (λ x. all-below (no-pair-root? p β a x) p) p t (z .0) (ltb-true (z .0) p low) in
+    let other = passes (no-pair-root? p β a (z .0)) p row (z .1) (ltb-true (z .1) p high) in
+    both-ways _ (not-true _ other) (and-from _ _ (eq-eqb _ _ (ap (λ w. w .0) e)) (eq-eqb _ _ (ap (λ w. w .1) e)))

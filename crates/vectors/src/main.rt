@@ -11,6 +11,7 @@ use towers::Tally;
 
 fn main(rt: LibcRuntime) -> io::Result<()> {
     values::worked_values_hold();
+    values::prime_tower_signs_are_sgn0();
     let agreeing = fields::known_roots();
     println!(rt, "known roots: {agreeing} of 5 agree")?;
     let refused = fields::refused_makings();

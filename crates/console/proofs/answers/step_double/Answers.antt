@@ -18,7 +18,7 @@ returns-in-rest c =
 
 pub returns-in-Ok : need.returns-in-Ok
 returns-in-Ok c =
-    let (nonsquare, base, beta) = c .in-Ok .ensures tt in
+    let (nonsquare, base, beta) = c .in-Ok .ensures tt .answer in
     let f = c .args .open .field in
     let h = c .in-Ok .higher .field in
     step-made 1 (pairs (modular (f .base .modulus)) (f .beta)) (pairs (pairs (modular (h .base .base .modulus)) (h .base .beta)) (h .beta)) (c .args .numbers .now) (c .args .k) (c .in-Some .beta) (omega arith) (c .in-Some .ensures tt) nonsquare
@@ -26,7 +26,7 @@ returns-in-Ok c =
 
 pub returns-in-Err : need.returns-in-Err
 returns-in-Err c =
-    let (square, due, same) = c .in-Err .ensures tt in
+    let (square, due, same) = c .in-Err .ensures tt .answer in
     let f = c .args .open .field in
     let g = c .in-Err .rejected .open .field in
     step-not-made 1 (pairs (modular (f .base .modulus)) (f .beta)) (pairs (modular (g .base .modulus)) (g .beta)) (c .args .numbers .now) (c .args .k) (c .in-Some .beta) (c .in-Err .rejected .fault)

@@ -19,13 +19,13 @@ returns-in-rest c =
 
 pub returns-in-Ok : need.returns-in-Ok
 returns-in-Ok c =
-    let (nonsquare, base, beta) = c .in-Ok .ensures tt in
+    let (nonsquare, base, beta) = c .in-Ok .ensures tt .answer in
     let f = c .in-Ok .higher .field in
     step-made 0 (modular (c .args .open .field .modulus)) (pairs (modular (f .base .modulus)) (f .beta)) (c .args .numbers .now) (c .args .k) (c .in-Some .beta) (omega arith) (c .in-Some .ensures tt) nonsquare
     (ap₂ (λ b d. pairs (modular (b .modulus)) d) base beta)
 
 pub returns-in-Err : need.returns-in-Err
 returns-in-Err c =
-    let (square, due, same) = c .in-Err .ensures tt in
+    let (square, due, same) = c .in-Err .ensures tt .answer in
     step-not-made 0 (modular (c .args .open .field .modulus)) (modular (c .in-Err .rejected .open .field .modulus)) (c .args .numbers .now) (c .args .k) (c .in-Some .beta) (c .in-Err .rejected .fault)
     (omega arith) (c .in-Some .ensures tt) square due (ap (λ u. modular (u .field .modulus)) same)

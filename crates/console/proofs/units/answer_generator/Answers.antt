@@ -21,7 +21,7 @@ returns-in-Ok g c =
     let f = g .Elem·Coordinates .flat in
     let a = c .args .alpha in
     let u = c .in-Ok .sealed in
-    let (allowed, field, alpha, length) = c .in-Ok .ensures tt in (
+    let (allowed, field, alpha, length) = c .in-Ok .ensures tt .answer in (
       subst (λ l. Unit-handled o f (alpha-given a) (c .args .k) (meant l) (sealed (u .alpha) (u .length)) (accepted (codes "length"))) (sym (c .in-Length .is))
           (inl (subst (λ s. Unit-outcome o f (alpha-given a) (len (c .in-Length .n)) s (accepted (codes "length"))) (ap (λ b. sealed b (c .in-Length .n)) (sym alpha) ∙ ap (sealed (u .alpha)) (sym length)) (sealed-with allowed))),
       field,
@@ -33,6 +33,6 @@ returns-in-Err g c =
     let f = g .Elem·Coordinates .flat in
     let a = c .args .alpha in (
       subst (λ l. Unit-handled o f (alpha-given a) (c .args .k) (meant l) (alpha-given a) (refused (Unit (c .in-Err .rejected .fault)))) (sym (c .in-Length .is))
-          (inl (not-sealed (c .in-Err .rejected .fault) (c .in-Err .ensures tt .0))),
-      ap (λ u. u .field) (c .in-Err .ensures tt .1),
+          (inl (not-sealed (c .in-Err .rejected .fault) (c .in-Err .ensures tt .answer .0))),
+      ap (λ u. u .field) (c .in-Err .ensures tt .answer .1),
     )
