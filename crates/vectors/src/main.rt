@@ -1,6 +1,7 @@
 // Executes values that were computed elsewhere, and prints how many agree.
 mod blocks;
 mod fields;
+mod orders;
 mod pdf417;
 mod towers;
 mod units;
@@ -36,7 +37,9 @@ fn main(rt: LibcRuntime) -> io::Result<()> {
     )?;
     let sealings = units::sealings();
     println!(rt, "sealings: {sealings} of 7 agree")?;
-    print_blocks(&rt)
+    print_blocks(&rt)?;
+    let orders = orders::day(rt.alloc())?;
+    println!(rt, "orders of a day: {orders} of 16 agree")
 }
 
 fn print_tally(rt: &LibcRuntime, p: u32, height: u32, tally: Tally) -> io::Result<()> {
