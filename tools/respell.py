@@ -35,8 +35,8 @@ def turned(name):
 def foreign(text):
     """The names that a file takes from elsewhere than this repository."""
     found = set()
-    for crate, names in re.findall(r"use Rattle\.(\w+)[\w.']*\.\{([^}]*)\}", text):
-        if crate == "std":
+    for module, names in re.findall(r"use ([\w.']+)\.\{([^}]*)\}", text):
+        if module.startswith("Rattle.std.") or not module.startswith("Rattle."):
             for item in names.split(","):
                 found |= set(item.split())
     return found
@@ -66,7 +66,7 @@ def rewrite(text, mark, change):
             if i % 2:
                 out.append(part)
                 continue
-            out.append(re.sub(NAME, lambda m, p=part: change(m.group(0), p[m.start() - 1] if m.start() else " ", p[m.end() :]), part))
+            out.append(re.sub(NAME, lambda m, p=part: change(m.group(0), (" " + p[: m.start()])[-2:], p[m.end() :]), part))
     return "".join(out)
 
 
@@ -109,7 +109,10 @@ def main():
             taken = foreign(text)
 
             def change(token, before, after, taken=taken, kind=kind):
-                field = before == "." or re.match(r"\s*=\s", after) is not None
+                field = before[-1:] == "." or re.match(r"\s*=\s", after) is not None
+                if before.endswith("N."):  # the kit's lemmas on numbers, under a short name
+                    return token
+                before = before[-1:]
                 if token not in names or token in taken and not (field and token in fields):
                     return token
                 if kind == "function" and before == "." and token not in fields:

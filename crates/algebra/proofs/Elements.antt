@@ -1,7 +1,7 @@
 -- Equations between a field's elements by the ring solver, and what the laws give of products.
 -- The laws hold of elements alone, so the ring is that of the elements with the proof that they are.
 use Rattle.std.proofs.Common.{◌≡◌, ℕ, zero, suc, Bool, true, false, List, [], ◌∷◌, sym, refl, ap, ◌∙◌, subst, ap₂}
-use mathlib.Core.Bool.{BoolSet}
+use mathlib.Core.Bool.{Bool-set}
 use mathlib.Core.HLevel.{Σ_prop_path}
 use Rattle.algebra.specs.Operations.{Ops, In, minus}
 use Rattle.algebra.specs.Laws.{Arithmetic}
@@ -12,7 +12,7 @@ abbrev pub Element : {E : Type 0} → Ops E → Type 0
 Element {E} o = (x : E) × In o x
 
 pub element-≡ : {E : Type 0} (o : Ops E) {u v : Element o} → u.0 ≡ v.0 → u ≡ v
-element-≡ o e = Σ_prop_path (λ x. BoolSet (o.is x) true) e
+element-≡ o e = Σ_prop_path (λ x. Bool-set (o.is x) true) e
 
 abbrev pub elements : {E : Type 0} {o : Ops E} → Arithmetic o → CommutativeRing (Element o)
 elements {o = o} l = record {

@@ -1,7 +1,7 @@
 -- Commutative rings, and their equations by computation: two expressions are equal where their difference has the normal form zero.
 use Rattle.std.proofs.Common.{◌≡◌, ℕ, zero, suc, ◌+◌, ◌*◌, Bool, true, false, ◌&&◌, T, eqb, List, [], ◌∷◌, sym, refl, ap, ◌∙◌, subst, ap₂, add-zero, add-suc, mul-zero, mul-suc, eqb→eq}
 use Prim.Native.Nat.{compare, Ordering}
-use native.Mathlib.Omega.{compare_eq}
+use native.Mathlib.Omega.{compare-eq}
 
 pub record CommutativeRing (A : Type 0) : Type 0 where
   pub 𝟘 : A
@@ -260,7 +260,7 @@ module _ {A : Type 0} (r : CommutativeRing A) where
             ap₂ (λ u v. u ⊹ x · v) (hp p') (hq q')
             ∙ ap (λ z. (P ⊹ P') ⊹ z) (times_plus x Q Q')
             ∙ plus_swap P P' (x · Q) (x · Q')
-            ∙ ap (λ k. (P ⊹ x · Q) ⊹ (P' ⊹ at r ρ k · Q')) (compare_eq i j e)
+            ∙ ap (λ k. (P ⊹ x · Q) ⊹ (P' ⊹ at r ρ k · Q')) (compare-eq i j e)
         go Ordering.gt e ih = ap (λ z. z ⊹ y · Q') ih ∙ plus_assoc (P ⊹ x · Q) P' (y · Q')
 
     add_value : (p s : Poly) → value r ρ (add p s) ≡ value r ρ p ⊹ value r ρ s

@@ -1,4 +1,6 @@
 // Fields and rooted fields: what they mean, the laws that they keep, and a root on its own.
+#![tactic(auto)]
+
 ghost use Rattle.std.specs.Prelude.{◌≡◌, Decides};
 ghost use Rattle.algebra.specs.Laws.{Laws};
 ghost use Rattle.algebra.specs.Operations.{Ops, In};

@@ -1,4 +1,6 @@
 // Block codes over a field: which elements may generate one, the sums of a block, and its refusals.
+#![tactic(auto)]
+
 mod distance;
 mod faults;
 mod generator;

@@ -19,7 +19,7 @@ coordinates_length zero a = refl
 coordinates_length (suc n) a =
     let l = coordinates_length n a.0 in
     let h = coordinates_length n a.1 in
-    let p = N.pow_suc 2 n in
+    let p = N.pow-suc 2 n in
     length-append (coordinates n a.0) (coordinates n a.1) ∙ omega arith
 
 append_unique : (a b c d : List ℕ) → length a ≡ length c → a ++ b ≡ c ++ d → (a ≡ c) × (b ≡ d)

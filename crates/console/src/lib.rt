@@ -1,4 +1,6 @@
 // The program `shift` as functions on bytes and values: what comes of each line, and of a whole input.
+#![tactic(auto)]
+
 mod answers;
 mod commissions;
 mod console;

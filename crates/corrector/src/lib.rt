@@ -1,4 +1,6 @@
 // The corrector of blocks: it finds the one code word within two symbols of a block, or refuses.
+#![tactic(auto)]
+
 mod arithmetic;
 mod corrector;
 mod double;

@@ -4,6 +4,8 @@
 // one number or more, separated by commas; how many it needs depends on the field, so the caller
 // checks that. A line is `prime=N`, `nonresidue=N`, `step=E`, `alpha=E`, `length=N` or `find=E`, for a number
 // N and an element E. Any other bytes are no line.
+#![tactic(auto)]
+
 ghost use Rattle.std.specs.Prelude.{◌≡◌, ◌<◌, ◌⊎◌, ◌∷◌, ◌++◌, length, IfOk, vec_items, Decides, MatchOption, OnOk, slice_index};
 ghost use Rattle.std.specs.Str.Iter.{LacksByte};
 ghost use Rattle.lines.specs.Lines.{Proper, meant, written, WrittenOnce};

@@ -16,13 +16,13 @@ use Rattle.prime_field.specs.Powers.{power_lt, power_one, power_add, power_suc, 
 
 -- 1 and - 1 are the only numbers whose square is 1
 unit_roots : {p : ℕ} → Prime p → (z : ℕ) → z < p → (z * z) % p ≡ 1 → z ≢ 1 → z ≡ p - 1
-unit_roots {p} P zero lz e n1 = let k : ◌≡◌ {A = ℕ} 0 1 = sym (N.zero_mod p) ∙ e in absurd (omega arith)
+unit_roots {p} P zero lz e n1 = let k : ◌≡◌ {A = ℕ} 0 1 = sym (N.zero-mod p) ∙ e in absurd (omega arith)
 unit_roots {p} P (suc w) lz e n1 =
     elim (euclid P w (suc (suc w)) zeroed) [
-      | inl a ↦ (let k : w ≡ 0 = sym (N.mod_eq_of_lt (omega arith)) ∙ a in absurd (n1 (ap suc k)))
+      | inl a ↦ (let k : w ≡ 0 = sym (N.mod-eq_of_lt (omega arith)) ∙ a in absurd (n1 (ap suc k)))
       | inr b ↦ elim (cases_eq (suc (suc w)) p) [
         | inl q ↦ omega arith
-        | inr q ↦ (let lt : suc (suc w) < p = omega arith in let k : suc (suc w) ≡ 0 = sym (N.mod_eq_of_lt lt) ∙ b in absurd (omega arith))
+        | inr q ↦ (let lt : suc (suc w) < p = omega arith in let k : suc (suc w) ≡ 0 = sym (N.mod-eq_of_lt lt) ∙ b in absurd (omega arith))
       ]
     ]
   where
@@ -30,8 +30,8 @@ unit_roots {p} P (suc w) lz e n1 =
     zeroed : (w * suc (suc w)) % p ≡ 0
     zeroed =
         let q : 1 + w * suc (suc w) ≡ suc w * suc w = omega arith in
-        let s : (1 + w * suc (suc w)) % p ≡ (1 + 0) % p = mod_eq p q ∙ e ∙ sym (N.mod_eq_of_lt P.above_one) in
-        add_cancel p 1 (w * suc (suc w)) 0 (omega arith) s ∙ N.zero_mod p
+        let s : (1 + w * suc (suc w)) % p ≡ (1 + 0) % p = mod_eq p q ∙ e ∙ sym (N.mod-eq_of_lt P.above_one) in
+        add_cancel p 1 (w * suc (suc w)) 0 (omega arith) s ∙ N.zero-mod p
 
 -- what each round keeps
 pub record Round (p a x b c m : ℕ) : Type 0 where
@@ -47,8 +47,8 @@ pub round_first : (f : PrimeField) (a k w x b : ℕ) → 0 < a → a < f.modulus
     b ≡ (x * w) % f.modulus → k + k + 1 ≡ f.cofactor → Round f.modulus a x b f.generator f.exponent
 round_first f a k w x b pa la ew ex eb q =
     record {
-      x_in = subst (λ (v : ℕ). v < p) (sym ex) (N.mod_lt (a * w) pos);
-      b_in = subst (λ (v : ℕ). v < p) (sym eb) (N.mod_lt (x * w) pos);
+      x_in = subst (λ (v : ℕ). v < p) (sym ex) (N.mod-lt (a * w) pos);
+      b_in = subst (λ (v : ℕ). v < p) (sym eb) (N.mod-lt (x * w) pos);
       c_in = f.inside;
       more = exponent_pos h;
       square = square;
@@ -96,9 +96,9 @@ pub round_next : (p a x b c m i n d x' c' b' : ℕ) → Prime p → Round p a x 
     d ≡ power p c (2 ^ n) → x' ≡ (x * d) % p → c' ≡ (d * d) % p → b' ≡ (b * c') % p → n + i + 1 ≡ m → Round p a x' b' c' i
 round_next p a x b c m i n d x' c' b' P r nb l ed ex ec eb em =
     record {
-      x_in = subst (λ (v : ℕ). v < p) (sym ex) (N.mod_lt (x * d) pos);
-      b_in = subst (λ (v : ℕ). v < p) (sym eb) (N.mod_lt (b * c') pos);
-      c_in = subst (λ (v : ℕ). v < p) (sym ec) (N.mod_lt (d * d) pos);
+      x_in = subst (λ (v : ℕ). v < p) (sym ex) (N.mod-lt (x * d) pos);
+      b_in = subst (λ (v : ℕ). v < p) (sym eb) (N.mod-lt (b * c') pos);
+      c_in = subst (λ (v : ℕ). v < p) (sym ec) (N.mod-lt (d * d) pos);
       more = l.positive;
       square = square;
       c_order = c_order;
@@ -113,9 +113,9 @@ round_next p a x b c m i n d x' c' b' P r nb l ed ex ec eb em =
     square : (x' * x') % p ≡ (a * b') % p
     square =
         ap (λ (v : ℕ). (v * v) % p) ex
-        ∙ mul_congr p ((x * d) % p) (x * d) ((x * d) % p) (x * d) (N.mod_mod (x * d) p) (N.mod_mod (x * d) p)
-        ∙ mod_eq p (N.mul_mul_mul_comm x d x d)
-        ∙ mul_congr p (x * x) (a * b) (d * d) c' r.square (sym (mod_eq p ec ∙ N.mod_mod (d * d) p))
+        ∙ mul_congr p ((x * d) % p) (x * d) ((x * d) % p) (x * d) (N.mod-mod (x * d) p) (N.mod-mod (x * d) p)
+        ∙ mod_eq p (N.mul-mul-mul_comm x d x d)
+        ∙ mul_congr p (x * x) (a * b) (d * d) c' r.square (sym (mod_eq p ec ∙ N.mod-mod (d * d) p))
         ∙ mod_eq p (N.mul_assoc a b c')
         ∙ sym (mod_mul_right a (b * c') p) ∙ ap (λ (v : ℕ). (a * v) % p) (sym eb)
 
@@ -139,7 +139,7 @@ round_next p a x b c m i n d x' c' b' P r nb l ed ex ec eb em =
 
 -- b is 1: x or its negative is the root
 pub round_last : (p a x b c m : ℕ) → a < p → Round p a x b c m → b ≡ 1 → (x * x) % p ≡ a
-round_last p a x b c m la r e = r.square ∙ ap (λ (v : ℕ). (a * v) % p) e ∙ mod_eq p (N.mul_one a) ∙ N.mod_eq_of_lt la
+round_last p a x b c m la r e = r.square ∙ ap (λ (v : ℕ). (a * v) % p) e ∙ mod_eq p (N.mul-one a) ∙ N.mod-eq_of_lt la
 
 pub even_root : (p a x : ℕ) → x < p → (x * x) % p ≡ a → x % 2 ≡ 0 → RootOf (modular p) a x
 even_root p a x lx e even = record { inside = lt-ltb x p lx; squares = e; even = even }

@@ -16,7 +16,7 @@ two_more n s t e pos even lt = (whole, half, below)
     two : 2 ^ (s + 1) ≡ 2 ^ s * 2
     two =
         let q : s + 1 ≡ suc s = omega arith in
-        ap (λ (v : ℕ). 2 ^ v) q ∙ N.pow_suc 2 s
+        ap (λ (v : ℕ). 2 ^ v) q ∙ N.pow-suc 2 s
 
     whole : n ≡ 2 ^ (s + 1) * (t / 2)
     whole =
@@ -29,8 +29,8 @@ two_more n s t e pos even lt = (whole, half, below)
           | inl h ↦ h
           | inr h ↦
               (let a : 2 ^ 32 ≤ 2 ^ (s + 1) = pow_mono h in
-              let b : 2 ^ (s + 1) * 1 ≤ 2 ^ (s + 1) * (t / 2) = N.mul_le_mul_left (2 ^ (s + 1)) half in
-              absurd (omega (arith, whole, N.mul_one (2 ^ (s + 1)))))
+              let b : 2 ^ (s + 1) * 1 ≤ 2 ^ (s + 1) * (t / 2) = N.mul-le-mul_left (2 ^ (s + 1)) half in
+              absurd (omega (arith, whole, N.mul-one (2 ^ (s + 1)))))
         ]
 
 -- one more squaring
@@ -38,21 +38,21 @@ pub square_more : (p a k r r' : ℕ) → r ≡ power p a (2 ^ k) → r' ≡ (r *
 square_more p a k r r' e f =
     let q : k + 1 ≡ suc k = omega arith in
     f ∙ ap (λ (v : ℕ). (v * v) % p) e ∙ power_add p a (2 ^ k) (2 ^ k)
-    ∙ ap (λ (v : ℕ). power p a v) (sym (N.two_pow_succ k) ∙ ap (λ (v : ℕ). 2 ^ v) (sym q))
+    ∙ ap (λ (v : ℕ). power p a v) (sym (N.two-pow-succ k) ∙ ap (λ (v : ℕ). 2 ^ v) (sym q))
 
 -- a number of 32 bits has no binary digit above its highest
 pub no_digits : (n : ℕ) → n < 2 ^ 32 → n / 2 ^ (32 - count_leading_zeros 32 n) ≡ 0
 no_digits n h =
     let (m, e, l, _) = leading_length 32 n h in
     let q : 32 - count_leading_zeros 32 n ≡ m = omega arith in
-    ap (λ (v : ℕ). n / 2 ^ v) q ∙ N.div_eq_of_lt l
+    ap (λ (v : ℕ). n / 2 ^ v) q ∙ N.div-eq_of_lt l
 
 -- the digits of n down to the one before k, from those down to k
 digit_more : (n k : ℕ) → 0 < k → n / 2 ^ (k - 1) ≡ (n / 2 ^ k + n / 2 ^ k) + (n / 2 ^ (k - 1)) % 2
 digit_more n k pos =
     let q : k ≡ suc (k - 1) = omega arith in
     let e : n / 2 ^ k ≡ n / 2 ^ (k - 1) / 2 =
-    ap (λ (v : ℕ). n / 2 ^ v) q ∙ ap (λ (v : ℕ). n / v) (N.pow_suc 2 (k - 1)) ∙ sym (N.div_div_eq_div_mul n (2 ^ (k - 1)) 2) in
+    ap (λ (v : ℕ). n / 2 ^ v) q ∙ ap (λ (v : ℕ). n / v) (N.pow-suc 2 (k - 1)) ∙ sym (N.div-div-eq-div-mul n (2 ^ (k - 1)) 2) in
     omega arith
 
 -- one more digit, 0 or 1

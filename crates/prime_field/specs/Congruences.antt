@@ -10,7 +10,7 @@ mod_eq p e = ap (λ (v : ℕ). v % p) e
 pub mod_mul_left : (a b p : ℕ) → (a % p * b) % p ≡ (a * b) % p
 mod_mul_left a b p =
     let e : a * b ≡ a % p * b + p * (a / p * b) =
-    ap (λ (v : ℕ). v * b) (sym (mod-add-div a p)) ∙ N.add_mul (a % p) (p * (a / p)) b ∙ ap (λ (v : ℕ). a % p * b + v) (N.mul_assoc p (a / p) b) in
+    ap (λ (v : ℕ). v * b) (sym (mod-add-div a p)) ∙ N.add-mul (a % p) (p * (a / p)) b ∙ ap (λ (v : ℕ). a % p * b + v) (N.mul_assoc p (a / p) b) in
     sym (mod_eq p e ∙ add-mul-mod_self_left (a % p * b) p (a / p * b))
 
 pub mod_mul_right : (a b p : ℕ) → (a * (b % p)) % p ≡ (a * b) % p
@@ -27,9 +27,9 @@ mul_congr p a b c d e f =
     ∙ ap (λ (v : ℕ). (b * v) % p) f ∙ mod_mul_right b d p
 
 pub pow_congr : (p a b n : ℕ) → a % p ≡ b % p → (a ^ n) % p ≡ (b ^ n) % p
-pow_congr p a b zero e = mod_eq p (N.pow_zero a ∙ sym (N.pow_zero b))
+pow_congr p a b zero e = mod_eq p (N.pow-zero a ∙ sym (N.pow-zero b))
 pow_congr p a b (suc n) e =
-    mod_eq p (N.pow_suc a n) ∙ mul_congr p (a ^ n) (b ^ n) a b (pow_congr p a b n e) e ∙ mod_eq p (sym (N.pow_suc b n))
+    mod_eq p (N.pow-suc a n) ∙ mul_congr p (a ^ n) (b ^ n) a b (pow_congr p a b n e) e ∙ mod_eq p (sym (N.pow-suc b n))
 
 -- what is added on both sides cancels
 pub add_cancel : (p x b c : ℕ) → 0 < p → (x + b) % p ≡ (x + c) % p → b % p ≡ c % p
@@ -39,7 +39,7 @@ add_cancel p x b c pos e = sym (back b) ∙ add_congr p n n (x + b) (x + c) refl
     n = x * pred p
 
     is : n + x ≡ x * p
-    is = sym (N.mul_suc x (pred p)) ∙ ap (λ (v : ℕ). x * v) (suc-pred-eq_of_pos pos)
+    is = sym (N.mul-suc x (pred p)) ∙ ap (λ (v : ℕ). x * v) (suc-pred-eq_of_pos pos)
 
     back : (y : ℕ) → (n + (x + y)) % p ≡ y % p
-    back y = mod_eq p (sym (N.add_assoc n x y) ∙ ap (λ (v : ℕ). v + y) is) ∙ N.mul_add_mod_self_right x p y
+    back y = mod_eq p (sym (N.add_assoc n x y) ∙ ap (λ (v : ℕ). v + y) is) ∙ N.mul-add-mod_self_right x p y

@@ -65,7 +65,7 @@ length_up_to zero = refl
 length_up_to (suc n) = ap suc (length_up_to n)
 
 pub to_up_to : (n z : ℕ) → 0 < z → z ≤ n → Member z (up_to n)
-to_up_to zero z pos le = absurd (N.not_suc_le_zero (N.le_trans pos le))
+to_up_to zero z pos le = absurd (N.not-suc-le-zero (N.le_trans pos le))
 to_up_to (suc n) z pos le =
     elim (cases_eq z (suc n)) [ inl e ↦ inl e | inr ne ↦ inr (to_up_to n z pos (omega arith)) ]
 

@@ -12,8 +12,8 @@ use Rattle.prime_field.specs.DistinctLists.{product}
 use Rattle.prime_field.specs.UnitProducts.{units, product_rootless, product_rooted}
 
 one_pow : (n : ℕ) → 1 ^ n ≡ 1
-one_pow zero = N.pow_zero 1
-one_pow (suc n) = N.pow_suc 1 n ∙ N.mul_one (1 ^ n) ∙ one_pow n
+one_pow zero = N.pow-zero 1
+one_pow (suc n) = N.pow-suc 1 n ∙ N.mul-one (1 ^ n) ∙ one_pow n
 
 wilson : {p : ℕ} → Prime p → p % 2 ≡ 1 → (product (units p) + 1) % p ≡ 0
 wilson {p} P odd =
@@ -22,7 +22,7 @@ wilson {p} P odd =
 
 -- a root of a below n, or the fact that there is none
 decide_root : (p a n : ℕ) → ((x : ℕ) × (x < n) × ((x * x) % p ≡ a)) ⊎ ((x : ℕ) → x < n → (x * x) % p ≢ a)
-decide_root p a zero = inr (λ x h. absurd (N.not_suc_le_zero h))
+decide_root p a zero = inr (λ x h. absurd (N.not-suc-le-zero h))
 decide_root p a (suc n) = go (decide_root p a n) (cases_eq ((n * n) % p) a)
   where
     go : ((x : ℕ) × (x < n) × ((x * x) % p ≡ a)) ⊎ ((x : ℕ) → x < n → (x * x) % p ≢ a) → ((n * n) % p ≡ a) ⊎ ((n * n) % p ≢ a) →
@@ -79,7 +79,7 @@ minus_one_squared p above =
     let pe : p ≡ w + 2 = omega arith in
     let me : p - 1 ≡ w + 1 = omega arith in
     let q : (w + 1) * (w + 1) ≡ 1 + w * (w + 2) = omega arith in
-    ap (λ (v : ℕ). (v * v) % p) me ∙ mod_eq p (q ∙ ap (λ (v : ℕ). 1 + w * v) (sym pe)) ∙ N.add_mul_mod_self_right 1 w p ∙ mod-eq_of_lt above
+    ap (λ (v : ℕ). (v * v) % p) me ∙ mod_eq p (q ∙ ap (λ (v : ℕ). 1 + w * v) (sym pe)) ∙ N.add-mul-mod_self_right 1 w p ∙ mod-eq_of_lt above
 
 -- Fermat's little theorem: the square of what Euler's criterion says
 pub fermat : {p : ℕ} → Prime p → p % 2 ≡ 1 → (a : ℕ) → 0 < a → a < p → power p a (p - 1) ≡ 1
@@ -94,7 +94,7 @@ fermat {p} P odd a pa la = go (euler P odd a pa la)
 
     squared : (z : ℕ) → a ^ h % p ≡ z → a ^ (p - 1) % p ≡ (z * z) % p
     squared z e =
-        let f : a ^ h % p ≡ z % p = sym (N.mod_mod (a ^ h) p) ∙ mod_eq p e in
+        let f : a ^ h % p ≡ z % p = sym (N.mod-mod (a ^ h) p) ∙ mod_eq p e in
         mod_eq p (ap (λ (v : ℕ). a ^ v) (sym hh) ∙ pow-add a h h) ∙ mul_congr p (a ^ h) z (a ^ h) z f f
 
     go : Criterion p a → a ^ (p - 1) % p ≡ 1

@@ -29,7 +29,7 @@ module _ (p : ℕ) (P : Prime p) (odd : p % 2 ≡ 1) where
 
   mul_add : (a b c : ℕ) → (a * ((b + c) % p)) % p ≡ ((a * b) % p + (a * c) % p) % p
   mul_add a b c =
-      mod_mul_right a (b + c) p ∙ mod_eq p (N.mul_add a b c) ∙ sym (mod-add-mod (a * b) p (a * c)) ∙ sym (add-mod-mod (a * b % p) (a * c) p)
+      mod_mul_right a (b + c) p ∙ mod_eq p (N.mul-add a b c) ∙ sym (mod-add-mod (a * b) p (a * c)) ∙ sym (add-mod-mod (a * b % p) (a * c) p)
 
   add_neg : (a : ℕ) → a < p → (a + (p - a) % p) % p ≡ 0
   add_neg a h =
@@ -55,10 +55,10 @@ module _ (p : ℕ) (P : Prime p) (odd : p % 2 ≡ 1) where
         mul_comm = λ a b _ _. mod_eq p (N.mul_comm a b);
         mul_assoc = λ a b c _ _ _. mul_assoc a b c;
         mul_add = λ a b c _ _ _. mul_add a b c;
-        add_zero = λ a h. mod_eq p (N.add_zero a) ∙ mod-eq_of_lt (ltb-true a p h);
-        mul_one = λ a h. mod_eq p (N.mul_one a) ∙ mod-eq_of_lt (ltb-true a p h);
+        add_zero = λ a h. mod_eq p (N.add-zero a) ∙ mod-eq_of_lt (ltb-true a p h);
+        mul_one = λ a h. mod_eq p (N.mul-one a) ∙ mod-eq_of_lt (ltb-true a p h);
         add_neg = λ a h. add_neg a (ltb-true a p h);
-        mul_inv = λ a h n. power_inverse P odd a (N.pos_of_ne_zero n) (ltb-true a p h);
+        mul_inv = λ a h n. power_inverse P odd a (N.pos_of_ne-zero n) (ltb-true a p h);
         inv_zero = zero_power p (p - 2) (omega (arith, two));
         one_not_zero = λ e. omega arith;
         two_not_zero = two_not_zero;

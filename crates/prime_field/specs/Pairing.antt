@@ -66,13 +66,13 @@ one_pair_more p c x xs y m e (h, l, q) =
       suc h,
       le,
       mod_eq p (ap (λ (v : ℕ). x * v) (product_remove y xs m) ∙ sym (N.mul_assoc x y r)) ∙ mul_congr p (x * y) c r (c ^ h) cp q
-          ∙ mod_eq p (sym (N.pow_succ' c h)),
+          ∙ mod_eq p (sym (N.pow-succ' c h)),
     )
 
 -- by recursion on a bound n of the length
 pub pair_product : {p : ℕ} → Prime p → (c n : ℕ) (xs : List ℕ) → length xs ≤ n → Paired p c xs → PairProduct p c xs
-pair_product {p} P c n [] l h = (0, refl, mod_eq p (sym (N.pow_zero c)))
-pair_product {p} P c zero (x ∷ xs) l h = absurd (N.not_suc_le_zero l)
+pair_product {p} P c n [] l h = (0, refl, mod_eq p (sym (N.pow-zero c)))
+pair_product {p} P c zero (x ∷ xs) l h = absurd (N.not-suc-le-zero l)
 pair_product {p} P c (suc n) (x ∷ xs) l h = go (h.partner x (inl refl)) (λ ys. pair_product P c n ys)
   where
     go : ((y : ℕ) × Member y (x ∷ xs) × ((x * y) % p ≡ c)) → ((ys : List ℕ) → length ys ≤ n → Paired p c ys → PairProduct p c ys) → PairProduct p c (x ∷ xs)

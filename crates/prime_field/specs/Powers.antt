@@ -8,48 +8,48 @@ use Rattle.prime_field.specs.Congruences.{mod_eq, mul_congr, pow_congr, mod_mul_
 use Rattle.prime_field.specs.Euler.{fermat}
 
 pow_mul : (a m n : ℕ) → a ^ (m * n) ≡ (a ^ m) ^ n
-pow_mul a m zero = ap (λ (v : ℕ). a ^ v) (N.mul_zero m) ∙ N.pow_zero a ∙ sym (N.pow_zero (a ^ m))
+pow_mul a m zero = ap (λ (v : ℕ). a ^ v) (N.mul-zero m) ∙ N.pow-zero a ∙ sym (N.pow-zero (a ^ m))
 pow_mul a m (suc n) =
-    ap (λ (v : ℕ). a ^ v) (N.mul_suc m n) ∙ pow-add a (m * n) m ∙ ap (λ (v : ℕ). v * a ^ m) (pow_mul a m n) ∙ sym (N.pow_suc (a ^ m) n)
+    ap (λ (v : ℕ). a ^ v) (N.mul-suc m n) ∙ pow-add a (m * n) m ∙ ap (λ (v : ℕ). v * a ^ m) (pow_mul a m n) ∙ sym (N.pow-suc (a ^ m) n)
 
 mul_pow : (a b n : ℕ) → (a * b) ^ n ≡ a ^ n * b ^ n
-mul_pow a b zero = N.pow_zero (a * b) ∙ sym (ap (λ (v : ℕ). v * b ^ 0) (N.pow_zero a) ∙ N.one_mul (b ^ 0) ∙ N.pow_zero b)
+mul_pow a b zero = N.pow-zero (a * b) ∙ sym (ap (λ (v : ℕ). v * b ^ 0) (N.pow-zero a) ∙ N.one-mul (b ^ 0) ∙ N.pow-zero b)
 mul_pow a b (suc n) =
-    N.pow_suc (a * b) n ∙ ap (λ (v : ℕ). v * (a * b)) (mul_pow a b n) ∙ N.mul_mul_mul_comm (a ^ n) (b ^ n) a b
-    ∙ ap (λ (v : ℕ). v * (b ^ n * b)) (sym (N.pow_suc a n)) ∙ ap (λ (v : ℕ). a ^ suc n * v) (sym (N.pow_suc b n))
+    N.pow-suc (a * b) n ∙ ap (λ (v : ℕ). v * (a * b)) (mul_pow a b n) ∙ N.mul-mul-mul_comm (a ^ n) (b ^ n) a b
+    ∙ ap (λ (v : ℕ). v * (b ^ n * b)) (sym (N.pow-suc a n)) ∙ ap (λ (v : ℕ). a ^ suc n * v) (sym (N.pow-suc b n))
 
 pub power_lt : (p a n : ℕ) → 0 < p → power p a n < p
 unfolding power
-power_lt p a n h = N.mod_lt (a ^ n) h
+power_lt p a n h = N.mod-lt (a ^ n) h
 
 pub power_zero : (p a : ℕ) → 1 < p → power p a 0 ≡ 1
 unfolding power
-power_zero p a h = mod_eq p (N.pow_zero a) ∙ N.mod_eq_of_lt h
+power_zero p a h = mod_eq p (N.pow-zero a) ∙ N.mod-eq_of_lt h
 
 pub power_one : (p a : ℕ) → a < p → power p a 1 ≡ a
 unfolding power
-power_one p a h = mod_eq p (N.pow_suc a 0 ∙ ap (λ (v : ℕ). v * a) (N.pow_zero a) ∙ N.one_mul a) ∙ N.mod_eq_of_lt h
+power_one p a h = mod_eq p (N.pow-suc a 0 ∙ ap (λ (v : ℕ). v * a) (N.pow-zero a) ∙ N.one-mul a) ∙ N.mod-eq_of_lt h
 
 pub power_suc : (p a n : ℕ) → (power p a n * a) % p ≡ power p a (n + 1)
 unfolding power
 power_suc p a n =
     let e : suc n ≡ n + 1 = omega arith in
-    mod_mul_left (a ^ n) a p ∙ mod_eq p (sym (N.pow_suc a n) ∙ ap (λ (v : ℕ). a ^ v) e)
+    mod_mul_left (a ^ n) a p ∙ mod_eq p (sym (N.pow-suc a n) ∙ ap (λ (v : ℕ). a ^ v) e)
 
 pub power_add : (p a m n : ℕ) → (power p a m * power p a n) % p ≡ power p a (m + n)
 unfolding power
 power_add p a m n =
-    mul_congr p (a ^ m % p) (a ^ m) (a ^ n % p) (a ^ n) (N.mod_mod (a ^ m) p) (N.mod_mod (a ^ n) p) ∙ mod_eq p (sym (pow-add a m n))
+    mul_congr p (a ^ m % p) (a ^ m) (a ^ n % p) (a ^ n) (N.mod-mod (a ^ m) p) (N.mod-mod (a ^ n) p) ∙ mod_eq p (sym (pow-add a m n))
 
 pub power_power : (p a m n : ℕ) → power p (power p a m) n ≡ power p a (m * n)
 unfolding power
-power_power p a m n = pow_congr p (a ^ m % p) (a ^ m) n (N.mod_mod (a ^ m) p) ∙ mod_eq p (sym (pow_mul a m n))
+power_power p a m n = pow_congr p (a ^ m % p) (a ^ m) n (N.mod-mod (a ^ m) p) ∙ mod_eq p (sym (pow_mul a m n))
 
 pub mul_power : (p a b n : ℕ) → power p ((a * b) % p) n ≡ (power p a n * power p b n) % p
 unfolding power
 mul_power p a b n =
-    pow_congr p ((a * b) % p) (a * b) n (N.mod_mod (a * b) p) ∙ mod_eq p (mul_pow a b n)
-    ∙ sym (mul_congr p (a ^ n % p) (a ^ n) (b ^ n % p) (b ^ n) (N.mod_mod (a ^ n) p) (N.mod_mod (b ^ n) p))
+    pow_congr p ((a * b) % p) (a * b) n (N.mod-mod (a * b) p) ∙ mod_eq p (mul_pow a b n)
+    ∙ sym (mul_congr p (a ^ n % p) (a ^ n) (b ^ n % p) (b ^ n) (N.mod-mod (a ^ n) p) (N.mod-mod (b ^ n) p))
 
 pub square_power : (p a n : ℕ) → power p ((a * a) % p) n ≡ power p a (n + n)
 square_power p a n = mul_power p a a n ∙ power_add p a n n
@@ -57,7 +57,7 @@ square_power p a n = mul_power p a a n ∙ power_add p a n n
 pub zero_power : (p n : ℕ) → 0 < n → power p 0 n ≡ 0
 unfolding power
 zero_power p zero pos = absurd (omega arith)
-zero_power p (suc n) pos = mod_eq p (N.pow_suc 0 n ∙ N.mul_zero (0 ^ n)) ∙ N.zero_mod p
+zero_power p (suc n) pos = mod_eq p (N.pow-suc 0 n ∙ N.mul-zero (0 ^ n)) ∙ N.zero-mod p
 
 pub power_inverse : {p : ℕ} → Prime p → p % 2 ≡ 1 → (a : ℕ) → 0 < a → a < p → (a * power p a (p - 2)) % p ≡ 1
 power_inverse {p} P odd a pos lt =

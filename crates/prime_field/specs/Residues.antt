@@ -28,18 +28,18 @@ listed_split p s t l w r =
 
 -- an odd p has a factor 2 in p - 1
 pub exponent_pos : {p s t : ℕ} → Split p s t → 0 < s
-exponent_pos {p} {s = zero} {t} h = let e : 2 ^ 0 * t ≡ t = N.one_mul t in absurd (omega (arith, h.odd, h.whole, h.rest))
+exponent_pos {p} {s = zero} {t} h = let e : 2 ^ 0 * t ≡ t = N.one-mul t in absurd (omega (arith, h.odd, h.whole, h.rest))
 exponent_pos {p} {s = suc s} {t} h = omega arith
 
 pub double : (k : ℕ) → 0 < k → 2 ^ (k - 1) + 2 ^ (k - 1) ≡ 2 ^ k
 double k pos =
     let q : suc (k - 1) ≡ k = omega arith in
-    sym (N.two_pow_succ (k - 1)) ∙ ap (λ (v : ℕ). 2 ^ v) q
+    sym (N.two-pow-succ (k - 1)) ∙ ap (λ (v : ℕ). 2 ^ v) q
 
 euler_power : {p s t : ℕ} → Split p s t → (a b : ℕ) → b ≡ power p a t → power p b (2 ^ (s - 1)) ≡ power p a ((p - 1) / 2)
 euler_power {p} {s} {t} h a b eb =
     let e : t * 2 ^ (s - 1) + t * 2 ^ (s - 1) ≡ 2 ^ s * t =
-    sym (N.mul_add t (2 ^ (s - 1)) (2 ^ (s - 1))) ∙ ap (λ (v : ℕ). t * v) (double s (exponent_pos h)) ∙ N.mul_comm t (2 ^ s) in
+    sym (N.mul-add t (2 ^ (s - 1)) (2 ^ (s - 1))) ∙ ap (λ (v : ℕ). t * v) (double s (exponent_pos h)) ∙ N.mul_comm t (2 ^ s) in
     let k : t * 2 ^ (s - 1) ≡ (p - 1) / 2 = omega (arith, h.whole) in
     ap (λ (v : ℕ). power p v (2 ^ (s - 1))) eb ∙ power_power p a t (2 ^ (s - 1)) ∙ ap (λ (v : ℕ). power p a v) k
 

@@ -28,16 +28,16 @@ solve : {p : ℕ} → Prime p → (a x : ℕ) → 0 < a → a < p → 0 < x → 
 solve {p} P a x pa la px lx = go (inverse P x px lx)
   where
     go : (i : ℕ) × ((x * i) % p ≡ 1) → (y : ℕ) × (0 < y) × (y < p) × ((x * y) % p ≡ a)
-    go (i, e) = ((i * a) % p, N.pos_of_ne_zero nz, mod-lt (i * a) (omega arith), is)
+    go (i, e) = ((i * a) % p, N.pos_of_ne-zero nz, mod-lt (i * a) (omega arith), is)
       where
         is : (x * ((i * a) % p)) % p ≡ a
         is =
             mod_mul_right x (i * a) p ∙ mod_eq p (sym (N.mul_assoc x i a)) ∙ sym (mod_mul_left (x * i) a p)
-            ∙ ap (λ (v : ℕ). (v * a) % p) e ∙ mod_eq p (N.one_mul a) ∙ mod-eq_of_lt la
+            ∙ ap (λ (v : ℕ). (v * a) % p) e ∙ mod_eq p (N.one-mul a) ∙ mod-eq_of_lt la
 
         nz : (i * a) % p ≢ 0
         nz z =
-            let b : 0 ≡ a = sym (zero-mod p) ∙ mod_eq p (sym (N.mul_zero x)) ∙ ap (λ (v : ℕ). (x * v) % p) (sym z) ∙ is in
+            let b : 0 ≡ a = sym (zero-mod p) ∙ mod_eq p (sym (N.mul-zero x)) ∙ ap (λ (v : ℕ). (x * v) % p) (sym z) ∙ is in
             omega arith
 
 -- a has no root: the product is a ^ ((p - 1) / 2)
@@ -89,7 +89,7 @@ square_roots {p} P s t x e ps pt px lx q =
     let g : (x * x + s * t) % p ≡ 0 =
     add_congr p (x * x) (s * s) (s * t) (s * t) q refl ∙ mod_eq p (N.add_comm (s * s) (s * t)) ∙ negative_product p s t e in
     let z : ((x + s) * (x + t)) % p ≡ 0 =
-    mod_eq p (f ∙ ap (λ (v : ℕ). x * x + s * t + x * v) e) ∙ N.add_mul_mod_self_right (x * x + s * t) x p ∙ g in
+    mod_eq p (f ∙ ap (λ (v : ℕ). x * x + s * t + x * v) e) ∙ N.add-mul-mod_self_right (x * x + s * t) x p ∙ g in
     elim (euclid P (x + s) (x + t) z) [
       | inl a ↦ (let w : x + s ≡ p = is_modulus p (x + s) (omega arith) (omega arith) a in inr (omega arith))
       | inr b ↦ (let w : x + t ≡ p = is_modulus p (x + t) (omega arith) (omega arith) b in inl (omega arith))
@@ -153,7 +153,7 @@ module _ {p : ℕ} (P : Prime p) (odd : p % 2 ≡ 1) (s : ℕ) (ps : 0 < s) (ls 
   unfolding a
   a_pos =
       let nonzero : s % p ≢ 0 = λ z. (let e : s ≡ 0 = sym (mod-eq_of_lt ls) ∙ z in omega arith) in
-      N.pos_of_ne_zero (λ z. elim (euclid P s s z) [ inl k ↦ nonzero k | inr k ↦ nonzero k ])
+      N.pos_of_ne-zero (λ z. elim (euclid P s s z) [ inl k ↦ nonzero k | inr k ↦ nonzero k ])
 
   a_lt : a < p
   unfolding a
@@ -219,13 +219,13 @@ module _ {p : ℕ} (P : Prime p) (odd : p % 2 ≡ 1) (s : ℕ) (ps : 0 < s) (ls 
           first = mod_eq p units_product ∙ mul_congr p (s * t) (s * t) (product others) w refl e
 
           second : (a ^ suc h) % p ≡ (s * s * w) % p
-          second = mod_eq p (N.pow_succ' a h ∙ ap (λ (v : ℕ). v * w) a_is) ∙ mod_mul_left (s * s) w p
+          second = mod_eq p (N.pow-succ' a h ∙ ap (λ (v : ℕ). v * w) a_is) ∙ mod_mul_left (s * s) w p
 
           sum : (product (units p) + a ^ suc h) % p ≡ 0
           sum =
               add_congr p (product (units p)) (s * t * w) (a ^ suc h) (s * s * w) first second
-              ∙ mod_eq p (sym (N.add_mul (s * t) (s * s) w)) ∙ sym (mod_mul_left (s * t + s * s) w p)
-              ∙ ap (λ (v : ℕ). (v * w) % p) (negative_product p s t st) ∙ mod_eq p (N.zero_mul w) ∙ zero-mod p
+              ∙ mod_eq p (sym (N.add-mul (s * t) (s * s) w)) ∙ sym (mod_mul_left (s * t + s * s) w p)
+              ∙ ap (λ (v : ℕ). (v * w) % p) (negative_product p s t st) ∙ mod_eq p (N.zero-mul w) ∙ zero-mod p
 
 -- a has the root s: the product is - a ^ ((p - 1) / 2)
 pub product_rooted : {p : ℕ} → Prime p → p % 2 ≡ 1 → (a s : ℕ) → 0 < s → s < p → (s * s) % p ≡ a →

@@ -1,4 +1,6 @@
 // The field of an odd prime below 2^32, and its square roots.
+#![tactic(auto)]
+
 ghost use Rattle.std.specs.Prelude.{◌≡◌, ◌+◌, ◌-◌, ◌*◌, ◌%◌, ◌^◌, ◌<◌};
 ghost use Rattle.prime_field.specs.Modular.{power};
 ghost use Rattle.prime_field.specs.Primes.{Undivided};

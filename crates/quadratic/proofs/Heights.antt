@@ -1,6 +1,6 @@
 -- Towers of any height, by induction.
 use Rattle.std.proofs.Common.{◌≡◌, ℕ, zero, cond, ◌&&◌, eqb, ◌++◌, sym, ap, ◌∙◌, ap₂}
-use mathlib.Core.Bool.{and_true}
+use mathlib.Core.Bool.{and-true}
 use Rattle.algebra.specs.Operations.{Ops, In}
 use Rattle.algebra.specs.Laws.{Laws}
 use Rattle.algebra.specs.Roots.{Rooted}
@@ -25,7 +25,7 @@ pub record ByCoordinates (n : ℕ) (p : Ops (Height n ℕ)) (a : Height n ℕ) :
 by_coordinates : (o : Ops ℕ) → ParitySigns o → (n : ℕ) (p : Ops (Height n ℕ)) → Tower ℕ o n p → (a : Height n ℕ) → In p a → ByCoordinates n p a
 by_coordinates o signs _ _ ground a ha = record {
   sign = signs.sign_is a ha ∙ sym (sgn0_single a);
-  is_zero = ap (o.same a) signs.zero_is ∙ signs.same_is a 0 ha signs.zero_in ∙ sym (and_true (eqb a 0));
+  is_zero = ap (o.same a) signs.zero_is ∙ signs.same_is a 0 ha signs.zero_in ∙ sym (and-true (eqb a 0));
 }
 by_coordinates o signs _ _ (step n p β below up) a ha =
     let inside = and_parts (p.is a.0) (p.is a.1) ha in

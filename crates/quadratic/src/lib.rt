@@ -1,4 +1,6 @@
 // Quadratic extensions of rooted fields, and towers of them.
+#![tactic(auto)]
+
 
 mod arithmetic;
 mod extension;

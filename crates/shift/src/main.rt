@@ -1,4 +1,6 @@
 // The program `shift`: reads lines from standard input, and writes the reply to each as it ends.
+#![tactic(auto)]
+
 use console::Console;
 use std::io;
 use std::io::{Read, Write};

@@ -1,6 +1,6 @@
 -- The events of tasks.
 use Rattle.std.proofs.Common.{◌≡◌, ℕ, List, [], ◌∷◌, ◌++◌, reverse, sym, refl, ap, ◌∙◌, subst, ap₂}
-use mathlib.Core.List.{reverse_cons}
+use mathlib.Core.List.{reverse-cons}
 use Rattle.std.proofs.lemmas.List.{reverse-reverse}
 use Rattle.algebra.specs.Operations.{Ops}
 use Rattle.unit.specs.Days.{Event, event, Throughout}
@@ -26,7 +26,7 @@ carried_more {ts = ts} {xs = xs} {t = t} {x = x} {e = e} c o came = record {
   };
   fit = o.fit;
   day = e ∷ c.day;
-  came = subst (Events (ts ++ t ∷ []) (xs ++ x ∷ [])) (sym (reverse_cons e c.day)) (events_more c.came came);
+  came = subst (Events (ts ++ t ∷ []) (xs ++ x ∷ [])) (sym (reverse-cons e c.day)) (events_more c.came came);
   lived = λ h l. o.lived (c.day ++ h) (c.lived h l);
 }
 

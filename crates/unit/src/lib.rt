@@ -1,4 +1,6 @@
 // Steering units: open while they are commissioned, then sealed and given orders.
+#![tactic(auto)]
+
 mod days;
 mod faults;
 mod moves;

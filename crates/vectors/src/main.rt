@@ -1,4 +1,6 @@
 // Executes values that were computed elsewhere, and prints how many agree.
+#![tactic(auto)]
+
 mod blocks;
 mod fields;
 mod orders;

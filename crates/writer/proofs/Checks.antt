@@ -1,6 +1,6 @@
 -- The block that the writer leaves is a code word, and the only one with these data.
 use Rattle.std.proofs.Common.{◌≡◌, ℕ, zero, suc, ◌+◌, ◌-◌, ◌<◌, ◌≤◌, List, [], ◌∷◌, ◌++◌, length, take, set, sym, refl, ap, ◌∙◌, arith, length-append, length-take-le}
-use lib.Seq.{take_append_seam}
+use lib.Seq.{take-append_seam}
 use Rattle.std.proofs.ByRecursion.{All-append}
 use Rattle.algebra.specs.Operations.{Ops, In}
 use Rattle.algebra.specs.Laws.{Arithmetic}
@@ -62,7 +62,7 @@ module _ {E : Type 0} {o : Ops E} (l : Arithmetic o) where
   written α block p q g h hs hq roots re =
       let ds = data_of (length block) block in
       let len : length ds ≡ length block - 4 = length-take-le (length block - 4) block (omega arith) in
-      let kept : data_of (length block) (ds ++ checks o q) ≡ ds = ap (λ m. take m (ds ++ checks o q)) (sym len) ∙ take_append_seam ds (checks o q) in
+      let kept : data_of (length block) (ds ++ checks o q) ≡ ds = ap (λ m. take m (ds ++ checks o q)) (sym len) ∙ take-append_seam ds (checks o q) in
       let word : CodeWord₁ o α (length block) (ds ++ checks o q) = record {
         long = length-append ds (checks o q) ∙ (let m : length ds + 4 ≡ length block = omega (arith, len) in m);
         inside = All-append (In o) _ _ hs (checks_in q hq);
