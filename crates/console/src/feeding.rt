@@ -91,7 +91,7 @@ impl Console {
         self.lines = self.lines.saturating_add(1);
         let stage = std::mem::replace(&mut self.stage, Stage::Start);
         let answer = answer_line(
-            self.held.allocator(),
+            *self.held.allocator(),
             stage,
             self.lines,
             self.held.as_slice(),

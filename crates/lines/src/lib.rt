@@ -18,7 +18,7 @@ use std::str::from_utf8;
 pub fn put_number(out: &mut Vec<u8>, v: u32) -> Result<(), AllocError>
     ensures { OnOk result (out.new.items ≡ out.old.items ++ numeral v) }
 {
-    let digits = v.to_string(out.allocator())?;
+    let digits = v.to_string(*out.allocator())?;
     out.extend_from_slice(digits.as_bytes())
 }
 

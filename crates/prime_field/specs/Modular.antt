@@ -1,5 +1,5 @@
 -- Arithmetic modulo p, on the numbers below p.
-use Rattle.std.specs.Prelude.{ℕ, ◌+◌, ◌-◌, ◌*◌, ◌%◌, ◌^◌, nat_lt}
+use Rattle.std.specs.Prelude.{ℕ, ◌+◌, ◌-◌, ◌*◌, ◌%◌, ◌^◌, nat_lt, eqb}
 use Rattle.algebra.specs.Operations.{Ops}
 
 -- a to the power n, modulo p. It stays shut, since a ^ n at large numerals would be computed in full.

@@ -1,7 +1,6 @@
 // Quadratic extensions of rooted fields, and towers of them.
 #![tactic(auto)]
 
-
 mod arithmetic;
 mod extension;
 mod roots;

@@ -121,7 +121,7 @@ pub fn day(heap: Global) -> Result<u32, AllocError> {
         return Ok(agreeing);
     }
     for (task, row) in tasks.iter().zip(rows().iter()) {
-        if task.answer == Some(row.answer) && task.block.as_slice() == &row.left {
+        if task.answer == Some(row.answer) && task.block.as_slice() == row.left.as_slice() {
             agreeing = agreeing.saturating_add(1);
         }
     }

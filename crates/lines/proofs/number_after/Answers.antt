@@ -8,8 +8,8 @@ use Rattle.std.proofs.lemmas.Bool.Decides.{Decides-eqb}
 
 pub returns-in-Some : goal.returns-in-Some
 returns-in-Some c =
-    after_key numeral Fits32 (λ v. v) c.args.text.now c.args.key.now c.in-Some.value.now c.read-number.result
-    (strip_prefix_is Decides-eqb c.args.text.now c.args.key.now (Some c.in-Some.value) c.in-Some.ensures.cases) c.read-number.ensures
+    after_key numeral Fits32 (λ v. v) c.args.text.now c.args.key.now c.in-Some.value.now c.read_number.result
+    (strip_prefix_is Decides-eqb c.args.text.now c.args.key.now (Some c.in-Some.value) c.in-Some.ensures.cases) c.read_number.ensures
 
 pub returns-in-None : goal.returns-in-None
 returns-in-None c =

@@ -8,8 +8,8 @@ use Rattle.std.proofs.lemmas.Bool.Decides.{Decides-eqb}
 
 pub returns-in-Some : goal.returns-in-Some
 returns-in-Some c =
-    made_after_key spelled NumberList vec_items c.args.text.now c.args.key.now c.in-Some.value.now c.read-numbers.result
-    (strip_prefix_is Decides-eqb c.args.text.now c.args.key.now (Some c.in-Some.value) c.in-Some.ensures.cases) c.read-numbers.ensures
+    made_after_key spelled NumberList vec_items c.args.text.now c.args.key.now c.in-Some.value.now c.read_numbers.result
+    (strip_prefix_is Decides-eqb c.args.text.now c.args.key.now (Some c.in-Some.value) c.in-Some.ensures.cases) c.read_numbers.ensures
 
 pub returns-in-None : goal.returns-in-None
 returns-in-None c =

@@ -7,4 +7,4 @@ use Rattle.code.proofs.generator.generates.Given as goal
 abbrev pub invariant-loop-k : goal.invariant-loop-k
 invariant-loop-k g l =
     let o = g.F.Field.ops l.field in
-    (In o l.power) × (l.power ≡ power o l.alpha l.-k) × ((i : ℕ) → 1 ≤ i → i < l.-k → power o l.alpha i ≡ o.one → ⊥)
+    (In o l.power) × (l.power ≡ power o l.alpha l._k) × ((i : ℕ) → 1 ≤ i → i < l._k → power o l.alpha i ≡ o.one → ⊥)

@@ -8,10 +8,10 @@ use Rattle.console.specs.declared.stages.Stage.TheVariants.{Prime}
 use Rattle.console.proofs.Outcomes.{out_of_order, only_nonresidue}
 use Rattle.console.proofs.answers.answer_prime.Goals as goal
 
-pub returns-in-default : goal.returns-in-default
-returns-in-default c =
+pub returns-in_default : goal.returns-in_default
+returns-in_default c =
     out_of_order (meant c.args.line) c.args.k (Prime c.args.p) c.unreadable.result c.unreadable.ensures.left c.unreadable.ensures.reply
-    (only_nonresidue c.args.p c.args.line c.in-default.not-Nonresidue)
+    (only_nonresidue c.args.p c.args.line c.in_default.not-Nonresidue)
 
 pub returns-in-Ok : goal.returns-in-Ok
 returns-in-Ok c =

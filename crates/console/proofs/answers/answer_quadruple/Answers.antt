@@ -9,10 +9,10 @@ use Rattle.console.specs.Replies.{response}
 use Rattle.console.proofs.Outcomes.{unit_answered}
 use Rattle.console.proofs.answers.answer_quadruple.Goals as goal
 
-pub invariant-of-result : goal.invariant-of-result
-invariant-of-result c =
+pub invariant_of-result : goal.invariant_of-result
+invariant_of-result c =
     let q = c.args.quadruple in
-    let same = sym c.in-ok-left.ensures.1 in (
+    let same = sym c.in_ok-left.ensures.1 in (
       subst (λ f. In (modular f.base.base.modulus) f.base.beta) same q.low_inside,
       (
         subst (λ f. Square (modular f.base.base.modulus) f.base.beta → ⊥) same q.low_rootless,
@@ -26,8 +26,8 @@ invariant-of-result c =
 pub returns : goal.returns
 returns c =
     let u = c.args.quadruple.unit in
-    let a = c.in-ok-left.field-0 in
-    let (handled, same) = c.in-ok-left.ensures in
+    let a = c.in_ok-left.field-0 in
+    let (handled, same) = c.in_ok-left.ensures in
     unit_answered 2 (pairs (pairs (modular (field_of u).base.base.modulus) (field_of u).base.beta) (field_of u).beta)
     (pairs (pairs (modular (field_of a.left).base.base.modulus) (field_of a.left).base.beta) (field_of a.left).beta)
     (phase u) (phase a.left) (meant c.args.line) c.args.k (response a.reply)

@@ -8,17 +8,17 @@ use Rattle.console.specs.declared.stages.Stage.TheVariants.{Start}
 use Rattle.console.proofs.Outcomes.{out_of_order, only_prime}
 use Rattle.console.proofs.answers.answer_start.Goals as goal
 
-pub returns-in-default : goal.returns-in-default
-returns-in-default c =
+pub returns-in_default : goal.returns-in_default
+returns-in_default c =
     out_of_order (meant c.args.line) c.args.k Start c.unreadable.result c.unreadable.ensures.left c.unreadable.ensures.reply
-    (only_prime c.args.line c.in-default.not-Prime)
+    (only_prime c.args.line c.in_default.not-Prime)
 
-pub returns-then-not-is-listed : goal.returns-then-not-is-listed
-returns-then-not-is-listed c =
+pub returns-then-not-is_listed : goal.returns-then-not-is_listed
+returns-then-not-is_listed c =
     subst (λ l. Handled begun c.args.k (meant l) begun (refused (Field UnlistedModulus))) (sym c.in-Prime.is)
-    (inl (prime_unlisted (λ l. let yes : false ≡ true = c.if-not-is-listed.ensures.1 l in let z : ◌≡◌ {A = ℕ} 0 1 = cc in omega arith)))
+    (inl (prime_unlisted (λ l. let yes : false ≡ true = c.if-not-is_listed.ensures.1 l in let z : ◌≡◌ {A = ℕ} 0 1 = cc in omega arith)))
 
 pub returns : goal.returns
 returns c =
     subst (λ l. Handled begun c.args.k (meant l) (prime_given c.in-Prime.p) (accepted (codes "prime"))) (sym c.in-Prime.is)
-    (inl (prime_listed (c.if-not-is-listed.ensures.0 refl)))
+    (inl (prime_listed (c.if-not-is_listed.ensures.0 refl)))

@@ -8,12 +8,12 @@ use Rattle.console.proofs.Coordinated.{no_element}
 use Rattle.console.proofs.Outcomes.{out_of_order, no_step_due, step_made, step_not_made}
 use Rattle.console.proofs.answers.step_double.Goals as goal
 
-pub returns-in-default : goal.returns-in-default
-returns-in-default c =
+pub returns-in_default : goal.returns-in_default
+returns-in_default c =
     let xs = c.args.numbers.now in
     let f = c.args.open.field in
     out_of_order (step xs) c.args.k _ c.unreadable.result c.unreadable.ensures.left c.unreadable.ensures.reply
-    (no_step_due 1 (pairs (modular f.base.modulus) f.beta) unsealed xs (λ β still e. no_element (coordinates 1) 2 (λ x. refl) xs c.in-default.ensures β e))
+    (no_step_due 1 (pairs (modular f.base.modulus) f.beta) unsealed xs (λ β still e. no_element (coordinates 1) 2 (λ x. refl) xs c.in_default.ensures β e))
 
 pub returns-in-Ok : goal.returns-in-Ok
 returns-in-Ok c =

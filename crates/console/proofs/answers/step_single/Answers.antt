@@ -10,11 +10,11 @@ use Rattle.console.proofs.Coordinated.{no_element}
 use Rattle.console.proofs.Outcomes.{out_of_order, no_step_due, step_made, step_not_made}
 use Rattle.console.proofs.answers.step_single.Goals as goal
 
-pub returns-in-default : goal.returns-in-default
-returns-in-default c =
+pub returns-in_default : goal.returns-in_default
+returns-in_default c =
     let xs = c.args.numbers.now in
     out_of_order (step xs) c.args.k (Single (Open c.args.open)) c.unreadable.result c.unreadable.ensures.left c.unreadable.ensures.reply
-    (no_step_due 0 (modular c.args.open.field.modulus) unsealed xs (λ β still e. no_element (coordinates 0) 1 (λ x. refl) xs c.in-default.ensures β e))
+    (no_step_due 0 (modular c.args.open.field.modulus) unsealed xs (λ β still e. no_element (coordinates 0) 1 (λ x. refl) xs c.in_default.ensures β e))
 
 pub returns-in-Ok : goal.returns-in-Ok
 returns-in-Ok c =

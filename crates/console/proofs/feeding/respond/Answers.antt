@@ -9,10 +9,10 @@ loop-out-init c = reads_none c.args.input.now (vec_items c.new-out.result) (wait
 
 pub loop-out-preserved : goal.loop-out-preserved
 loop-out-preserved c =
-    reads_one c.args.input.now (vec_items c.loop-out.out) (vec_items c.write-line.new.out) (waiting c.loop-out.console) (waiting c.write-line.new.self) c.loop-out.rest.now c.in-Some.more.now
-    c.loop-out.invariant (MatchOption-at_some _ _ _ c.in-Some.is c.in-ok-more.ensures)
+    reads_one c.args.input.now (vec_items c.loop-out.out) (vec_items c.write_line.new.out) (waiting c.loop-out.console) (waiting c.write_line.new.self) c.loop-out.rest.now c.in-Some.more.now
+    c.loop-out.invariant (MatchOption-at_some _ _ _ c.in-Some.is c.in_ok-more.ensures)
 
 pub returns : goal.returns
 returns c =
-    reads_all c.args.input.now (vec_items c.loop-out.out) (vec_items c.write-line.new.out) (vec_items c.write-last.new.out) (waiting c.loop-out.console) (waiting c.write-line.new.self) c.loop-out.rest.now
-    c.loop-out.invariant (MatchOption-at_none _ _ c.in-default.is c.in-ok-more.ensures) c.in-ok-write-last.ensures
+    reads_all c.args.input.now (vec_items c.loop-out.out) (vec_items c.write_line.new.out) (vec_items c.write_last.new.out) (waiting c.loop-out.console) (waiting c.write_line.new.self) c.loop-out.rest.now
+    c.loop-out.invariant (MatchOption-at_none _ _ c.in_default.is c.in_ok-more.ensures) c.in_ok-write_last.ensures

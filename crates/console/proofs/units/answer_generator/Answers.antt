@@ -7,11 +7,11 @@ use Rattle.console.specs.declared.faults.ShiftFault.TheVariants.{Unit}
 use Rattle.console.proofs.Outcomes.{unit_out_of_order, only_length}
 use Rattle.console.proofs.units.answer_generator.Goals as goal
 
-pub returns-in-default : goal.returns-in-default
-returns-in-default g c =
+pub returns-in_default : goal.returns-in_default
+returns-in_default g c =
     let f = g.Elem.Coordinates.flat in
     unit_out_of_order (g.F.Field.ops c.args.unit.field) f (meant c.args.line) c.args.k (Generator c.args.unit c.args.alpha) c.unreadable.result c.unreadable.ensures.left c.unreadable.ensures.reply
-    (only_length f c.args.alpha c.args.line c.in-default.not-Length)
+    (only_length f c.args.alpha c.args.line c.in_default.not-Length)
 
 pub returns-in-Ok : goal.returns-in-Ok
 returns-in-Ok g c =

@@ -6,7 +6,7 @@ use Rattle.console.proofs.writing.put_refusal.Goals as goal
 
 pub returns : goal.returns
 returns c =
-    let before = vec_items c.extend-from-slice.new.self in
-    append_three (vec_items c.args.out.now) before (vec_items c.put-number.new.out) (vec_items c.extend-from-slice-2.new.self)
+    let before = vec_items c.extend_from_slice.new.self in
+    append_three (vec_items c.args.out.now) before (vec_items c.put_number.new.out) (vec_items c.extend_from_slice-2.new.self)
     (codes "refused=") (numeral (shift_number c.args.fault)) (codes "\n")
-    c.in-ok-extend-from-slice.ensures.items (c.in-ok-put-number.ensures ∙ ap (λ n. before ++ numeral n) c.number.ensures) c.in-ok-extend-from-slice-2.ensures.items
+    c.in_ok-extend_from_slice.ensures.items (c.in_ok-put_number.ensures ∙ ap (λ n. before ++ numeral n) c.number.ensures) c.in_ok-extend_from_slice-2.ensures.items

@@ -5,6 +5,6 @@ use Rattle.console.proofs.writing.put_root.Goals as goal
 
 pub returns : goal.returns
 returns c =
-    append_three (vec_items c.args.out.now) (vec_items c.extend-from-slice.new.self) (vec_items c.put-numbers.new.out) (vec_items c.extend-from-slice-2.new.self)
+    append_three (vec_items c.args.out.now) (vec_items c.extend_from_slice.new.self) (vec_items c.put_numbers.new.out) (vec_items c.extend_from_slice-2.new.self)
     (codes "find=") (spelled c.args.values.now) (codes "\n")
-    c.in-ok-extend-from-slice.ensures.items c.in-ok-put-numbers.ensures c.in-ok-extend-from-slice-2.ensures.items
+    c.in_ok-extend_from_slice.ensures.items c.in_ok-put_numbers.ensures c.in_ok-extend_from_slice-2.ensures.items

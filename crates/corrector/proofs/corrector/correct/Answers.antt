@@ -8,18 +8,18 @@ use Rattle.corrector.proofs.Completeness.{far_from_one, far_from_two}
 use Rattle.corrector.proofs.Outcomes.{corrected, uncorrected}
 use Rattle.corrector.proofs.corrector.correct.Goals as goal
 
-pub returns-then-all-zero : goal.returns-then-all-zero
-returns-then-all-zero g c =
+pub returns-then-all_zero : goal.returns-then-all_zero
+returns-then-all_zero g c =
     let o = g.F.Field.ops c.args.field.now in
     let l = (g.met.F.Field.laws c.args.field.now c.requires.sound).arithmetic in
     let α = c.args.alpha in
     let b = c.args.block.now in
-    let long = c.in-ok-check-block.ensures.0 in
-    let hs = c.in-ok-check-block.ensures.1 in
-    let s = c.syndromes-of-s in
+    let long = c.in_ok-check_block.ensures.0 in
+    let hs = c.in_ok-check_block.ensures.1 in
+    let s = c.syndromes_of-s in
     let gen : Generates o α (length b) = subst (Generates o α) (sym long) c.requires.generator in
     corrected l α c.args.n c.requires.generator b b 0 long hs
-    (zero_corrects l α b gen hs s.result s.ensures.value s.ensures.inside (c.if-all-zero.ensures.0 refl))
+    (zero_corrects l α b gen hs s.result s.ensures.value s.ensures.inside (c.if-all_zero.ensures.0 refl))
 
 pub returns-then-equal : goal.returns-then-equal
 returns-then-equal g c =
@@ -28,15 +28,15 @@ returns-then-equal g c =
     let α = c.args.alpha in
     let n = c.args.n in
     let b = c.args.block.now in
-    let long = c.in-ok-check-block.ensures.0 in
-    let hs = c.in-ok-check-block.ensures.1 in
-    let s = c.syndromes-of-s in
+    let long = c.in_ok-check_block.ensures.0 in
+    let hs = c.in_ok-check_block.ensures.1 in
+    let s = c.syndromes_of-s in
     let gen : Generates o α (length b) = subst (Generates o α) (sym long) c.requires.generator in
-    let nonzero : AllZero o s.result → ⊥ = λ z. let w : false ≡ true = c.if-all-zero.ensures.1 z in search rules in
-    let zero : det o s.result ≡ o.zero = sym c.cross-difference-d.ensures.value ∙ c.if-equal.ensures.tells.0 refl ∙ c.zero.ensures.value in
-    MatchResult-weaker c.correct-one.result c.correct-one.ensures
-    (λ count k. corrected l α n c.requires.generator b c.correct-one.new.block count long hs k)
-    (λ fault k. uncorrected l α n c.requires.generator b c.correct-one.new.block fault long hs k.kept k.told
+    let nonzero : AllZero o s.result → ⊥ = λ z. let w : false ≡ true = c.if-all_zero.ensures.1 z in search rules in
+    let zero : det o s.result ≡ o.zero = sym c.cross_difference-d.ensures.value ∙ c.if-equal.ensures.tells.0 refl ∙ c.zero.ensures.value in
+    MatchResult-weaker c.correct_one.result c.correct_one.ensures
+    (λ count k. corrected l α n c.requires.generator b c.correct_one.new.block count long hs k)
+    (λ fault k. uncorrected l α n c.requires.generator b c.correct_one.new.block fault long hs k.kept k.told
     (far_from_one l α b gen hs s.result s.ensures.value s.ensures.inside nonzero zero k.none))
 
 pub returns-else-equal : goal.returns-else-equal
@@ -46,14 +46,14 @@ returns-else-equal g c =
     let α = c.args.alpha in
     let n = c.args.n in
     let b = c.args.block.now in
-    let long = c.in-ok-check-block.ensures.0 in
-    let hs = c.in-ok-check-block.ensures.1 in
-    let s = c.syndromes-of-s in
+    let long = c.in_ok-check_block.ensures.0 in
+    let hs = c.in_ok-check_block.ensures.1 in
+    let s = c.syndromes_of-s in
     let gen : Generates o α (length b) = subst (Generates o α) (sym long) c.requires.generator in
-    let nonzero : AllZero o s.result → ⊥ = λ z. let w : false ≡ true = c.if-all-zero.ensures.1 z in search rules in
+    let nonzero : AllZero o s.result → ⊥ = λ z. let w : false ≡ true = c.if-all_zero.ensures.1 z in search rules in
     let not-zero : det o s.result ≡ o.zero → ⊥ =
-    λ z. let w : false ≡ true = c.if-equal.ensures.tells.1 (c.cross-difference-d.ensures.value ∙ z ∙ sym c.zero.ensures.value) in search rules in
-    MatchResult-weaker c.correct-two.result c.correct-two.ensures
-    (λ count k. corrected l α n c.requires.generator b c.correct-two.new.block count long hs k)
-    (λ fault k. uncorrected l α n c.requires.generator b c.correct-two.new.block fault long hs k.kept k.told
+    λ z. let w : false ≡ true = c.if-equal.ensures.tells.1 (c.cross_difference-d.ensures.value ∙ z ∙ sym c.zero.ensures.value) in search rules in
+    MatchResult-weaker c.correct_two.result c.correct_two.ensures
+    (λ count k. corrected l α n c.requires.generator b c.correct_two.new.block count long hs k)
+    (λ fault k. uncorrected l α n c.requires.generator b c.correct_two.new.block fault long hs k.kept k.told
     (far_from_two l α b gen hs s.result s.ensures.value s.ensures.inside nonzero not-zero k.none))

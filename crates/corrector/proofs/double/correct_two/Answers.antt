@@ -9,18 +9,18 @@ use Rattle.corrector.proofs.Soundness.{two_corrects}
 use Rattle.corrector.proofs.Completeness.{no_pair, no_double, no_left, no_right}
 use Rattle.corrector.proofs.double.correct_two.Goals as goal
 
-pub returns-in-err-x : goal.returns-in-err-x
-returns-in-err-x g c =
+pub returns-in_err-x : goal.returns-in_err-x
+returns-in_err-x g c =
     let o = g.F.Field.ops c.args.field.now in
     let l = (g.met.F.Field.laws c.args.field.now c.requires.sound).arithmetic in
     let u : locator_sum o c.args.s ≡ c.mul-u.result = cc in
     let v : locator_product o c.args.s ≡ c.mul-v.result = cc in
-    let p = err_from_is_err_and c.from-residual.result c.from-residual.ensures.1 in
+    let p = err_from_is_err_and c.from_residual.result c.from_residual.ensures.1 in
     rw (p.1, p.2) (record {
       kept = refl;
       none = no_pair l c.args.alpha c.args.block.now c.requires.generator c.requires.elements c.args.s c.requires.value c.requires.inside
-          (λ x y q. c.in-err-x.ensures.none x y (pair_of u v q));
-      told = c.in-err-x.ensures.told;
+          (λ x y q. c.in_err-x.ensures.none x y (pair_of u v q));
+      told = c.in_err-x.ensures.told;
     })
 
 pub returns-then-equal : goal.returns-then-equal
@@ -32,12 +32,12 @@ returns-then-equal g c =
     record {
       kept = refl;
       none = no_double l c.args.alpha c.args.block.now c.requires.generator c.requires.elements c.args.s c.requires.value c.requires.inside
-          _ _ (pair_of u v c.in-ok-x.ensures) (c.if-equal.ensures.tells.0 refl);
+          _ _ (pair_of u v c.in_ok-x.ensures) (c.if-equal.ensures.tells.0 refl);
       told = refl;
     }
 
-pub returns-in-default : goal.returns-in-default
-returns-in-default g c =
+pub returns-in_default : goal.returns-in_default
+returns-in_default g c =
     let o = g.F.Field.ops c.args.field.now in
     let l = (g.met.F.Field.laws c.args.field.now c.requires.sound).arithmetic in
     let u : c.mul-u.result ≡ locator_sum o c.args.s = cc in
@@ -45,12 +45,12 @@ returns-in-default g c =
     record {
       kept = refl;
       none = no_left l c.args.alpha c.args.block.now c.requires.generator c.requires.elements c.args.s c.requires.value c.requires.inside
-          _ _ (pair_of u v c.in-ok-x.ensures) c.in-default.ensures;
+          _ _ (pair_of u v c.in_ok-x.ensures) c.in_default.ensures;
       told = refl;
     }
 
-pub returns-in-default-find-place : goal.returns-in-default-find-place
-returns-in-default-find-place g c =
+pub returns-in_default-find_place : goal.returns-in_default-find_place
+returns-in_default-find_place g c =
     let o = g.F.Field.ops c.args.field.now in
     let l = (g.met.F.Field.laws c.args.field.now c.requires.sound).arithmetic in
     let u : c.mul-u.result ≡ locator_sum o c.args.s = cc in
@@ -58,7 +58,7 @@ returns-in-default-find-place g c =
     record {
       kept = refl;
       none = no_right l c.args.alpha c.args.block.now c.requires.generator c.requires.elements c.args.s c.requires.value c.requires.inside
-          _ _ (pair_of u v c.in-ok-x.ensures) c.in-default-find-place.ensures;
+          _ _ (pair_of u v c.in_ok-x.ensures) c.in_default-find_place.ensures;
       told = refl;
     }
 
@@ -68,9 +68,9 @@ amend-requires-2 g c =
     let b = c.args.block.now in
     record {
       sound = c.requires.sound;
-      elements = rw c.amend.ensures (amended_in l b c.in-Some.i c.error-magnitude.result c.in-Some.ensures.below c.requires.elements c.error-magnitude.ensures.inside);
-      error = c.error-magnitude-2.ensures.inside;
-      below = rw (c.amend.ensures, length_amended l b c.in-Some.i c.error-magnitude.result) c.in-Some-find-place.ensures.below;
+      elements = rw c.amend.ensures (amended_in l b c.in-Some.i c.error_magnitude.result c.in-Some.ensures.below c.requires.elements c.error_magnitude.ensures.inside);
+      error = c.error_magnitude-2.ensures.inside;
+      below = rw (c.amend.ensures, length_amended l b c.in-Some.i c.error_magnitude.result) c.in-Some-find_place.ensures.below;
     }
 
 pub returns : goal.returns
@@ -80,10 +80,10 @@ returns g c =
     let b = c.args.block.now in
     let u : c.mul-u.result ≡ locator_sum o c.args.s = cc in
     let v : c.mul-v.result ≡ locator_product o c.args.s = cc in
-    let after : c.amend-2.new.block ≡ amended o (amended o b c.in-Some.i c.error-magnitude.result) c.in-Some-find-place.k c.error-magnitude-2.result =
-    c.amend-2.ensures ∙ ap (λ w. amended o w c.in-Some-find-place.k c.error-magnitude-2.result) c.amend.ensures in
-    rw (after, c.error-magnitude.ensures.value, c.error-magnitude-2.ensures.value)
+    let after : c.amend-2.new.block ≡ amended o (amended o b c.in-Some.i c.error_magnitude.result) c.in-Some-find_place.k c.error_magnitude-2.result =
+    c.amend-2.ensures ∙ ap (λ w. amended o w c.in-Some-find_place.k c.error_magnitude-2.result) c.amend.ensures in
+    rw (after, c.error_magnitude.ensures.value, c.error_magnitude-2.ensures.value)
     (two_corrects l c.args.alpha b c.requires.generator c.requires.elements c.args.s c.requires.value c.requires.inside
-    _ _ (pair_of u v c.in-ok-x.ensures) (λ z. c.requires.nonzero (c.requires.determinant ∙ z))
+    _ _ (pair_of u v c.in_ok-x.ensures) (λ z. c.requires.nonzero (c.requires.determinant ∙ z))
     (λ q. let w : false ≡ true = c.if-equal.ensures.tells.1 q in search rules)
-    c.in-Some.i c.in-Some-find-place.k c.in-Some.ensures c.in-Some-find-place.ensures)
+    c.in-Some.i c.in-Some-find_place.k c.in-Some.ensures c.in-Some-find_place.ensures)

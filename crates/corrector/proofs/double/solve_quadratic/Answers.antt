@@ -6,13 +6,13 @@ use Rattle.corrector.specs.Errors.{Pair}
 use Rattle.corrector.proofs.Locators.{discriminant, pair_square, root_pair}
 use Rattle.corrector.proofs.double.solve_quadratic.Goals as goal
 
-pub returns-in-default : goal.returns-in-default
-returns-in-default g c =
+pub returns-in_default : goal.returns-in_default
+returns-in_default g c =
     let o = g.F.Field.ops c.args.field.now in
     let l = (g.met.F.Field.laws c.args.field.now c.requires.sound).arithmetic in
     let e : discriminant o c.args.u c.args.v ≡ c.subtract-discriminant.result = cc in
     record {
-      none = λ x y p. c.in-default.ensures (subst (Square o) e (pair_square l c.args.u c.args.v x y p));
+      none = λ x y p. c.in_default.ensures (subst (Square o) e (pair_square l c.args.u c.args.v x y p));
       told = refl;
     }
 

@@ -15,23 +15,23 @@ returns-then-equal g c =
       told = refl;
     }
 
-pub returns-in-default : goal.returns-in-default
-returns-in-default g c =
+pub returns-in_default : goal.returns-in_default
+returns-in_default g c =
     let l = (g.met.F.Field.laws c.args.field.now c.requires.sound).arithmetic in
     record {
       kept = refl;
       none = no_ratio l c.args.alpha c.args.block.now c.requires.generator c.requires.elements c.args.s c.requires.value c.requires.inside
-          c.in-default.ensures;
+          c.in_default.ensures;
       told = refl;
     }
 
-pub returns-in-default-find-place : goal.returns-in-default-find-place
-returns-in-default-find-place g c =
+pub returns-in_default-find_place : goal.returns-in_default-find_place
+returns-in_default-find_place g c =
     let l = (g.met.F.Field.laws c.args.field.now c.requires.sound).arithmetic in
     record {
       kept = refl;
       none = no_place l c.args.alpha c.args.block.now c.requires.generator c.requires.elements c.args.s c.requires.value c.requires.inside
-          c.in-Some.x c.in-Some.ensures c.in-default-find-place.ensures;
+          c.in-Some.x c.in-Some.ensures c.in_default-find_place.ensures;
       told = refl;
     }
 
@@ -42,8 +42,8 @@ returns g c =
     let b = c.args.block.now in
     let nonzero : c.args.s.s1 ≡ o.zero → ⊥ =
     λ z. let w : false ≡ true = c.if-equal.ensures.tells.1 (z ∙ sym c.zero.ensures.value) in search rules in
-    let after : amended o b c.in-Some-find-place.k (o.mul c.args.s.s1 (o.inv c.in-Some.x)) ≡ c.amend.new.block =
-    ap (amended o b c.in-Some-find-place.k) (sym c.divide.ensures.value) ∙ sym c.amend.ensures in
+    let after : amended o b c.in-Some-find_place.k (o.mul c.args.s.s1 (o.inv c.in-Some.x)) ≡ c.amend.new.block =
+    ap (amended o b c.in-Some-find_place.k) (sym c.divide.ensures.value) ∙ sym c.amend.ensures in
     subst (λ a. Corrects o c.args.alpha b a 1) after
     (one_corrects l c.args.alpha b c.requires.generator c.requires.elements c.args.s c.requires.value c.requires.inside
-    c.in-Some.x c.in-Some-find-place.k c.in-Some.ensures nonzero c.in-Some-find-place.ensures)
+    c.in-Some.x c.in-Some-find_place.k c.in-Some.ensures nonzero c.in-Some-find_place.ensures)

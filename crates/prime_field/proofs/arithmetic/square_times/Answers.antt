@@ -9,6 +9,6 @@ loop-j-init c = (sym (power_one c.args.p c.args.a c.requires), c.requires)
 
 pub loop-j-preserved : goal.loop-j-preserved
 loop-j-preserved c = (
-  square_more c.args.p c.args.a c.loop-j.-j c.loop-j.r c.product-r.result c.loop-j.invariant.0 c.product-r.ensures.value,
+  square_more c.args.p c.args.a c.loop-j._j c.loop-j.r c.product-r.result c.loop-j.invariant.0 c.product-r.ensures.value,
   c.product-r.ensures.inside,
 )

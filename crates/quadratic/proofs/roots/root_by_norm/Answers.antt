@@ -7,8 +7,8 @@ use Rattle.quadratic.specs.PairLaws.{low_in, high_in}
 use Rattle.quadratic.specs.PairRoots.{answers_by_half_sum, some_half_sum}
 use Rattle.quadratic.proofs.roots.root_by_norm.Goals as goal
 
-pub root-by-half-sum-requires : goal.root-by-half-sum-requires
-root-by-half-sum-requires g c =
+pub root_by_half_sum-requires : goal.root_by_half_sum-requires
+root_by_half_sum-requires g c =
     let o = g.F.Field.ops c.args.f.now in
     let l = g.met.F.Field.laws c.args.f.now c.requires.sound in
     let β = c.args.beta in
@@ -25,8 +25,8 @@ root-by-half-sum-requires g c =
           β a.1 c.requires.step.inside (high_in l β c.requires.step a c.requires.element) c.requires.root.squares);
     }
 
-pub root-by-half-sum-requires-2 : goal.root-by-half-sum-requires-2
-root-by-half-sum-requires-2 g c =
+pub root_by_half_sum-requires-2 : goal.root_by_half_sum-requires-2
+root_by_half_sum-requires-2 g c =
     let o = g.F.Field.ops c.args.f.now in
     let l = g.met.F.Field.laws c.args.f.now c.requires.sound in
     let β = c.args.beta in
@@ -53,6 +53,6 @@ returns g c =
     let d = c.args.d in
     let sum : c.mul.result ≡ o.mul (o.add a.0 d) (half o) = cc in
     let difference : c.mul-2.result ≡ o.mul (minus o a.0 d) (half o) = cc in
-    answers_by_half_sum l c.args.beta c.requires.step a c.mul-2.result c.root-by-half-sum-2.result c.root-by-half-sum-2.ensures
+    answers_by_half_sum l c.args.beta c.requires.step a c.mul-2.result c.root_by_half_sum-2.result c.root_by_half_sum-2.ensures
     (λ n. some_half_sum l c.args.beta c.requires.step a d c.requires.element c.requires.root.inside c.requires.root.squares
-    (λ s. c.in-default.ensures (subst (Square o) (sym sum) s)) (λ s. n (subst (Square o) (sym difference) s)))
+    (λ s. c.in_default.ensures (subst (Square o) (sym sum) s)) (λ s. n (subst (Square o) (sym difference) s)))

@@ -11,14 +11,14 @@ returns-in-Some g c =
     subst (λ z. RootOf (pairs o c.args.beta) (c.args.a0, o.zero) (c.in-Some.r, z)) (sym c.zero.ensures.value)
     (root_low l c.args.beta c.requires.step c.args.a0 c.in-Some.r c.in-Some.ensures)
 
-pub returns-in-default-root : goal.returns-in-default-root
-returns-in-default-root g c =
+pub returns-in_default-root : goal.returns-in_default-root
+returns-in_default-root g c =
     let o = g.F.Field.ops c.args.f.now in
     let l = g.met.F.Field.laws c.args.f.now c.requires.sound in
     let quotient : c.mul.result ≡ o.mul c.args.a0 (o.inv c.args.beta) = cc in
     λ _.
-    some_low l c.args.beta c.requires.step c.args.a0 c.requires.element c.in-default.ensures
-    (λ s. c.in-default-root.ensures (subst (Square o) (sym quotient) s))
+    some_low l c.args.beta c.requires.step c.args.a0 c.requires.element c.in_default.ensures
+    (λ s. c.in_default-root.ensures (subst (Square o) (sym quotient) s))
 
 pub returns : goal.returns
 returns g c =

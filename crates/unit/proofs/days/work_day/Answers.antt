@@ -9,10 +9,10 @@ use Rattle.unit.proofs.days.work_day.Goals as goal
 pub returns : goal.returns
 returns g c =
     let f = c.args.unit.field in
-    let new = c.in-ok-sealed.ensures in
-    let v = c.carry-out.new.self in
-    let done = c.carry-out.ensures in
-    let worked : Worked g.F.Field.sound g.F.Field.ops f c.args.alpha c.args.length c.args.tasks.now c.carry-out.new.tasks v =
+    let new = c.in_ok-sealed.ensures in
+    let v = c.carry_out.new.self in
+    let done = c.carry_out.ensures in
+    let worked : Worked g.F.Field.sound g.F.Field.ops f c.args.alpha c.args.length c.args.tasks.now c.carry_out.new.tasks v =
     record {
       allowed = new.answer.0;
       field_is = done.same.field_is ∙ new.answer.1;
@@ -30,8 +30,8 @@ returns g c =
       tasks = worked;
     }
 
-pub returns-in-err-sealed : goal.returns-in-err-sealed
-returns-in-err-sealed g c =
+pub returns-in_err-sealed : goal.returns-in_err-sealed
+returns-in_err-sealed g c =
     let f = c.args.unit.field in
     record {
       field = field_law (g.F.Field.ops f) (g.met.F.Field.laws f c.requires) (g.met.F.RootedField.rooted f c.requires);

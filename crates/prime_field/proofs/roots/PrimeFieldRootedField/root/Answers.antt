@@ -12,20 +12,20 @@ loop-b-init c =
     (ltb-true c.args.a f.modulus c.requires.1) c.pow-w.ensures.value c.product-x.ensures.value c.product-b.ensures.value
     (omega (arith, f.rest))
 
-pub returns-in-err-i : goal.returns-in-err-i
-returns-in-err-i c =
-    rw c.from-residual.ensures
+pub returns-in_err-i : goal.returns-in_err-i
+returns-in_err-i c =
+    rw c.from_residual.ensures
     (round_none c.args.self.now.modulus c.args.a c.loop-b.x c.loop-b.b c.loop-b.c c.loop-b.m
-    c.loop-b.invariant c.loop-b-test.true c.in-err-i.ensures)
+    c.loop-b.invariant c.loop-b-test.true c.in_err-i.ensures)
 
 pub loop-b-preserved : goal.loop-b-preserved
 loop-b-preserved c =
     let f = c.args.self.now in
-    round_next f.modulus c.args.a c.loop-b.x c.loop-b.b c.loop-b.c c.loop-b.m c.in-ok-i.i _
-    c.square-times-d.result c.product-x-in-loop-b.result c.product-c.result c.product-b-in-loop-b.result
-    (field_split f).prime c.loop-b.invariant c.loop-b-test.true c.in-ok-i.ensures c.square-times-d.ensures.value
+    round_next f.modulus c.args.a c.loop-b.x c.loop-b.b c.loop-b.c c.loop-b.m c.in_ok-i.i _
+    c.square_times-d.result c.product-x-in-loop-b.result c.product-c.result c.product-b-in-loop-b.result
+    (field_split f).prime c.loop-b.invariant c.loop-b-test.true c.in_ok-i.ensures c.square_times-d.ensures.value
     c.product-x-in-loop-b.ensures.value c.product-c.ensures.value c.product-b-in-loop-b.ensures.value
-    (omega (arith, c.in-ok-i.ensures.below))
+    (omega (arith, c.in_ok-i.ensures.below))
 
 pub returns-then-sign-eq0 : goal.returns-then-sign-eq0
 returns-then-sign-eq0 c =

@@ -29,10 +29,10 @@ loop-task-preserved g c =
     let d = c.task-item.result in
     let t : Task g.row.F-Elem.Denot = get_or ys i d in
     let after = c.order.new.block in
-    let len : length after ≡ vec_len t.block = omega (arith, c.as-mut-slice.ensures.len) in
+    let len : length after ≡ vec_len t.block = omega (arith, c.as_mut_slice.ensures.len) in
     let x : Task g.row.F-Elem.Denot = record { kind = t.kind; number = t.number; block = with_items t.block after; answer = Some c.order.result } in
-    let came : Came t x (event t.kind t.number c.as-mut-slice.result.now after c.order.result) =
-    record { kind_is = (refl, refl); number_is = (refl, refl); offered_is = c.as-mut-slice.ensures.value; left_is = sym (with_items_is t.block after len); answer_is = refl } in
+    let came : Came t x (event t.kind t.number c.as_mut_slice.result.now after c.order.result) =
+    record { kind_is = (refl, refl); number_is = (refl, refl); offered_is = c.as_mut_slice.ensures.value; left_is = sym (with_items_is t.block after len); answer_is = refl } in
     let low : i < length ys = omega arith in
     let before : take (i + 1) xs ≡ take i xs ++ t ∷ [] = take_more xs i d c.loop-task-test.true ∙ ap (λ z. take i xs ++ z ∷ []) (sym (c.loop-task.invariant.1 i d (omega arith))) in (
       subst (λ b. Carried g.F.Field.sound g.F.Field.ops u w b (take (i + 1) (set ys i x))) (sym before)

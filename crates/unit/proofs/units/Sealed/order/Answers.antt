@@ -26,8 +26,8 @@ returns-then-number-lt1 g c =
     by g _ _ _ c.requires refl refl refl
     (block_count k f (λ low high. ⊎_elim (λ x. omega arith) (λ x. omega arith) c.then-number-lt1.either) (record { answer_is = refl; progress_is = refl; block_is = refl }))
 
-pub returns-else-number-gt-MOST-BLOCKS : goal.returns-else-number-gt-MOST-BLOCKS
-returns-else-number-gt-MOST-BLOCKS g c =
+pub returns-else-number-gt-MOST_BLOCKS : goal.returns-else-number-gt-MOST_BLOCKS
+returns-else-number-gt-MOST_BLOCKS g c =
     let k : c.args.kind ≡ Open = search rules in
     let f : Fits Open c.args.self.now.progress.state = search rules in
     by g _ _ _ c.requires refl refl refl
@@ -38,17 +38,17 @@ returns-then-number-self g c =
     by g _ _ _ c.requires refl refl refl
     (out_of_turn c.in-Loading-Block.is-1 c.in-Loading-Block.is-0 c.if-number-self.true (record { answer_is = refl; progress_is = refl; block_is = refl }))
 
-pub returns-in-err-changed : goal.returns-in-err-changed
-returns-in-err-changed g c =
-    let p = err_from_is_err_and c.from-residual.result c.from-residual.ensures.1 in
-    let w = c.in-err-changed.ensures in
+pub returns-in_err-changed-in-Loading-Block : goal.returns-in_err-changed-in-Loading-Block
+returns-in_err-changed-in-Loading-Block g c =
+    let p = err_from_is_err_and c.from_residual.result c.from_residual.ensures.1 in
+    let w = c.in_err-changed-in-Loading-Block.ensures in
     by g _ _ _ c.requires refl refl refl
     (not_corrected c.in-Loading-Block.is-1 c.in-Loading-Block.is-0 c.if-number-self.false w.due (record { answer_is = p.1 ∙ ap Err (p.2 ∙ w.fault_is); progress_is = refl; block_is = w.due.kept }))
 
-pub returns-in-ok-changed : goal.returns-in-ok-changed
-returns-in-ok-changed g c =
+pub returns-in_ok-changed-in-Loading-Block : goal.returns-in_ok-changed-in-Loading-Block
+returns-in_ok-changed-in-Loading-Block g c =
     by g _ _ _ c.requires refl refl refl
-    (taken c.in-Loading-Block.is-1 c.in-Loading-Block.is-0 c.if-number-self.false c.in-ok-changed.ensures refl c.advanced-self.ensures)
+    (taken c.in-Loading-Block.is-1 c.in-Loading-Block.is-0 c.if-number-self.false c.in_ok-changed-in-Loading-Block.ensures refl c.advanced-self.ensures)
 
 pub returns-in-Ready-Engage : goal.returns-in-Ready-Engage
 returns-in-Ready-Engage g c =
@@ -66,23 +66,23 @@ returns-in-Steering-Open g c =
     by g _ _ _ c.requires refl refl refl
     (wrong_state f (record { answer_is = ap Err (ap fault.WrongState (sym c.in-Steering-Open.is-0)); progress_is = refl; block_is = refl }))
 
-pub returns-in-default : goal.returns-in-default
-returns-in-default g c =
+pub returns-in_default : goal.returns-in_default
+returns-in_default g c =
     let f : Fits c.args.kind c.args.self.now.progress.state → ⊥ = search rules in
     by g _ _ _ c.requires refl refl refl
     (wrong_state f (record { answer_is = refl; progress_is = refl; block_is = refl }))
 
-pub returns-in-default·2 : goal.returns-in-default·2
-returns-in-default·2 g c =
+pub returns-in_default-2 : goal.returns-in_default-2
+returns-in_default-2 g c =
     let f : Fits c.args.kind c.args.self.now.progress.state → ⊥ = search rules in
     by g _ _ _ c.requires refl refl refl (wrong_state f (record { answer_is = refl; progress_is = refl; block_is = refl }))
 
-pub returns-in-default·3 : goal.returns-in-default·3
-returns-in-default·3 g c =
+pub returns-in_default-3 : goal.returns-in_default-3
+returns-in_default-3 g c =
     let f : Fits c.args.kind c.args.self.now.progress.state → ⊥ = search rules in
     by g _ _ _ c.requires refl refl refl (wrong_state f (record { answer_is = refl; progress_is = refl; block_is = refl }))
 
-pub returns-in-default·4 : goal.returns-in-default·4
-returns-in-default·4 g c =
+pub returns-in_default-4 : goal.returns-in_default-4
+returns-in_default-4 g c =
     let f : Fits c.args.kind c.args.self.now.progress.state → ⊥ = search rules in
     by g _ _ _ c.requires refl refl refl (wrong_state f (record { answer_is = refl; progress_is = refl; block_is = refl }))
