@@ -13,4 +13,4 @@ returns-in-Some c =
 
 pub returns-in-None : goal.returns-in-None
 returns-in-None c =
-    λ v g e. strip_prefix_is c.args.text.now c.args.key.now None c.in-None.ensures.cases (spelled v) e
+    λ v g e. strip_prefix_is Decides-eqb c.args.text.now c.args.key.now None c.in-None.ensures.cases (spelled v) e

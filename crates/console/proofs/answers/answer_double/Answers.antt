@@ -12,10 +12,11 @@ use Rattle.console.proofs.answers.answer_double.Goals as goal
 
 pub invariant_of-result : goal.invariant_of-result
 invariant_of-result c =
-    let same = sym c.in_ok-left.ensures.1 in (
-      subst (λ f. In (modular f.base.modulus) f.beta) same c.args.double.beta_inside,
-      (subst (λ f. Square (modular f.base.modulus) f.beta → ⊥) same c.args.double.beta_rootless, tt),
-    )
+    let same = sym c.in_ok-left.ensures.1 in
+    record {
+      beta_inside = subst (λ f. In (modular f.base.modulus) f.beta) same c.args.double.beta_inside;
+      beta_rootless = subst (λ f. Square (modular f.base.modulus) f.beta → ⊥) same c.args.double.beta_rootless;
+    }
 
 pub returns-in_default : goal.returns-in_default
 returns-in_default c =

@@ -12,16 +12,13 @@ use Rattle.console.proofs.answers.answer_quadruple.Goals as goal
 pub invariant_of-result : goal.invariant_of-result
 invariant_of-result c =
     let q = c.args.quadruple in
-    let same = sym c.in_ok-left.ensures.1 in (
-      subst (λ f. In (modular f.base.base.modulus) f.base.beta) same q.low_inside,
-      (
-        subst (λ f. Square (modular f.base.base.modulus) f.base.beta → ⊥) same q.low_rootless,
-        (
-          subst (λ f. In (pairs (modular f.base.base.modulus) f.base.beta) f.beta) same q.beta_inside,
-          (subst (λ f. Square (pairs (modular f.base.base.modulus) f.base.beta) f.beta → ⊥) same q.beta_rootless, tt),
-        ),
-      ),
-    )
+    let same = sym c.in_ok-left.ensures.1 in
+    record {
+      low_inside = subst (λ f. In (modular f.base.base.modulus) f.base.beta) same q.low_inside;
+      low_rootless = subst (λ f. Square (modular f.base.base.modulus) f.base.beta → ⊥) same q.low_rootless;
+      beta_inside = subst (λ f. In (pairs (modular f.base.base.modulus) f.base.beta) f.beta) same q.beta_inside;
+      beta_rootless = subst (λ f. Square (pairs (modular f.base.base.modulus) f.base.beta) f.beta → ⊥) same q.beta_rootless;
+    }
 
 pub returns : goal.returns
 returns c =

@@ -9,14 +9,14 @@ use Rattle.console.proofs.units.answer_generator.Goals as goal
 
 pub returns-in_default : goal.returns-in_default
 returns-in_default g c =
-    let f = g.Elem.Coordinates.flat in
+    let f = g.F.Elem.Coordinates.flat in
     unit_out_of_order (g.F.Field.ops c.args.unit.field) f (meant c.args.line) c.args.k (Generator c.args.unit c.args.alpha) c.unreadable.result c.unreadable.ensures.left c.unreadable.ensures.reply
     (only_length f c.args.alpha c.args.line c.in_default.not-Length)
 
 pub returns-in-Ok : goal.returns-in-Ok
 returns-in-Ok g c =
     let o = g.F.Field.ops c.args.unit.field in
-    let f = g.Elem.Coordinates.flat in
+    let f = g.F.Elem.Coordinates.flat in
     let a = c.args.alpha in
     let u = c.in-Ok.sealed in
     let (allowed, field, alpha, length) = c.in-Ok.ensures.answer in (
@@ -28,7 +28,7 @@ returns-in-Ok g c =
 pub returns-in-Err : goal.returns-in-Err
 returns-in-Err g c =
     let o = g.F.Field.ops c.args.unit.field in
-    let f = g.Elem.Coordinates.flat in
+    let f = g.F.Elem.Coordinates.flat in
     let a = c.args.alpha in (
       subst (λ l. UnitHandled o f (alpha_given a) c.args.k (meant l) (alpha_given a) (refused (Unit c.in-Err.rejected.fault))) (sym c.in-Length.is)
           (inl (not_sealed c.in-Err.rejected.fault c.in-Err.ensures.answer.0)),

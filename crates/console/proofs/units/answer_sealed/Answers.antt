@@ -10,23 +10,23 @@ use Rattle.console.proofs.units.answer_sealed.Goals as goal
 
 pub returns-in_default : goal.returns-in_default
 returns-in_default g c =
-    let f = g.Elem.Coordinates.flat in
+    let f = g.F.Elem.Coordinates.flat in
     unit_out_of_order (g.F.Field.ops c.args.unit.field) f (meant c.args.line) c.args.k (Sealed c.args.unit) c.unreadable.result c.unreadable.ensures.left c.unreadable.ensures.reply
     (only_find f c.args.unit.alpha c.args.unit.length c.args.line c.in_default.not-Find)
 
 pub returns-in_default-from_numbers : goal.returns-in_default-from_numbers
 returns-in_default-from_numbers g c =
-    let f = g.Elem.Coordinates.flat in
+    let f = g.F.Elem.Coordinates.flat in
     let a = c.unreadable-in_default-from_numbers in
     unit_out_of_order (g.F.Field.ops c.args.unit.field) f (meant c.args.line) c.args.k (Sealed c.args.unit) a.result a.ensures.left a.ensures.reply
     (λ h.
     let (x, is) = find_element f (subst (λ l. UnitInOrder f (sealed c.args.unit.alpha c.args.unit.length) (meant l)) c.in-Find.is h) in
-    no_element f g.Elem.Coordinates.width g.met.Elem.Coordinates.long c.as_slice.result.now c.in_default-from_numbers.ensures x (c.as_slice.ensures.value ∙ is))
+    no_element f g.F.Elem.Coordinates.width g.met.F.Elem.Coordinates.long c.as_slice.result.now c.in_default-from_numbers.ensures x (c.as_slice.ensures.value ∙ is))
 
 pub returns : goal.returns
 returns g c =
     let ops = g.F.Field.ops in
-    let f = g.Elem.Coordinates.flat in
+    let f = g.F.Elem.Coordinates.flat in
     let u = c.args.unit in
     let s = sealed u.alpha u.length in
     let r = response c.in_ok-reply.reply in (

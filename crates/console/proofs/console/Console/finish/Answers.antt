@@ -3,7 +3,7 @@ use Rattle.console.specs.Consoles.{waiting}
 use Rattle.console.specs.Replies.{response}
 use Rattle.console.proofs.Streaming.{over_none, over_ended, over_line}
 use Rattle.console.proofs.console.Console.finish.Goals as goal
-use Rattle.console.proofs.console.Console.finish.Goals.{then-self-via-then-self, then-self-via-else-self+then-is-empty}
+use Rattle.console.proofs.console.Console.finish.Goals.{then-self-via-then-self, then-self-via-else-self+then-is_empty}
 
 pub returns-then-self : goal.returns-then-self
 returns-then-self c =
