@@ -1,9 +1,9 @@
 -- Equations between a field's elements by the ring solver, and what the laws give of products.
 -- The laws hold of elements alone, so the ring is that of the elements with the proof that they are.
-use Rattle.std.proofs.Common.{◌≡◌, ℕ, zero, suc, Bool, true, false, List, [], ◌∷◌, sym, refl, ap, ◌∙◌, subst, ap₂}
+use Rattle.std.proofs.Common.{◌≡◌, ℕ, suc, true, List, ◌∷◌, sym, refl, ap, ◌∙◌, subst, ap₂}
 use mathlib.Core.Bool.{Bool-set}
 use mathlib.Core.HLevel.{Σ_prop_path}
-use Rattle.algebra.specs.Operations.{Ops, In, minus}
+use Rattle.algebra.specs.Operations.{Ops, In}
 use Rattle.algebra.specs.Laws.{Arithmetic}
 use Rattle.algebra.proofs.Ring.{CommutativeRing, Expr, var, ◌⊕◌, ◌⊗◌, ⊝◌, 𝟎, 𝟏, same?, eval, at, solve, Given, plus_lefts, plus_rights, solve_from}
 

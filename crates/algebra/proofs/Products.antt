@@ -1,11 +1,10 @@
 -- What the laws give of products that are zero, and of two roots of one element.
-use Rattle.std.proofs.Common.{◌≡◌, ℕ, ◌+◌, Bool, true, false, ◌⊎◌, List, [], ◌∷◌, sym, refl, ap, ◌∙◌, subst, inl, inr, arith}
+use Rattle.std.proofs.Common.{◌≡◌, Bool, true, false, ◌⊎◌, [], ◌∷◌, sym, refl, ap, ◌∙◌, subst, inl, inr, arith}
 use Rattle.algebra.specs.Operations.{Ops, In, minus}
 use Rattle.algebra.specs.Laws.{Arithmetic, Laws}
 use Rattle.std.proofs.lemmas.Bool.{cases_eq}
 use Rattle.algebra.specs.Roots.{Square, RootOf}
 use Rattle.algebra.proofs.Elements.{by_ring, by_ring_from, times, reads}
-use Rattle.algebra.proofs.Solved.{difference_of_squares}
 
 module _ {E : Type 0} {o : Ops E} (l : Arithmetic o) where
   open o use {zero, one, add as ◌⊹◌, mul as ◌·◌, neg, inv}

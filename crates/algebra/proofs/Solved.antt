@@ -1,6 +1,6 @@
 -- Identities that the ring solver proves, each in a line.
-use Rattle.std.proofs.Common.{◌≡◌, List, [], ◌∷◌, refl, ap₂}
-use Rattle.algebra.specs.Operations.{Ops, In, minus}
+use Rattle.std.proofs.Common.{[], ◌∷◌, refl, ap₂}
+use Rattle.algebra.specs.Operations.{Ops}
 use Rattle.algebra.specs.Laws.{Arithmetic}
 use Rattle.algebra.specs.Identities.{DifferenceOfSquares, PairsAssociate, DeterminantsOfTwoTerms}
 use Rattle.algebra.proofs.Elements.{by_ring, reads}

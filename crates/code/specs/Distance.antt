@@ -1,5 +1,5 @@
 -- The distance of the codes.
-use Rattle.std.specs.Prelude.{◌≡◌, ℕ, ◌≤◌, List, ◌≢◌}
+use Rattle.std.specs.Prelude.{ℕ, ◌≤◌, List, ◌≢◌}
 use Rattle.algebra.specs.Operations.{Ops}
 use Rattle.code.specs.Blocks.{CodeWord, differ}
 use Rattle.code.specs.Generator.{Generates}

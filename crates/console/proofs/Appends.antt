@@ -1,5 +1,5 @@
 -- One append after another.
-use Rattle.std.proofs.Common.{◌≡◌, ℕ, List, ◌++◌, sym, ap, ◌∙◌, append_assoc}
+use Rattle.std.proofs.Common.{◌≡◌, ℕ, List, ◌++◌, ap, ◌∙◌, append_assoc}
 
 pub append_two : (w x y a b : List ℕ) → x ≡ w ++ a → y ≡ x ++ b → y ≡ w ++ (a ++ b)
 append_two w x y a b e f = f ∙ ap (λ v. v ++ b) e ∙ append_assoc w a b

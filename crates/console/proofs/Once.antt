@@ -1,5 +1,5 @@
 -- Every input has one list of responses: each line has one answer, at positions whose field keeps the laws, as every session's does.
-use Rattle.std.proofs.Common.{◌≡◌, ℕ, suc, ◌+◌, ◌<◌, ◌≤◌, Bool, true, false, ◌⊎◌, List, [], ◌∷◌, ◌++◌, length, get_or, sym, refl, ap, ◌∙◌, subst, ap₂, inl, inr, arith}
+use Rattle.std.proofs.Common.{◌≡◌, ℕ, suc, ◌<◌, ◌≤◌, true, false, ◌⊎◌, List, [], ◌∷◌, ◌++◌, length, get_or, sym, refl, ap, ◌∙◌, subst, ap₂, inl, inr, arith}
 use Rattle.std.proofs.lemmas.List.{length-append, get_or_append_left, get_or_at}
 use Rattle.std.specs.Str.Iter.{LacksByte}
 use Rattle.algebra.proofs.Products.{root_unique}
@@ -11,15 +11,13 @@ use Rattle.algebra.specs.declared.faults.FieldFault.{FieldFault}
 use Rattle.algebra.specs.declared.faults.FieldFault.TheVariants.{UnlistedModulus, NotNonresidue, NotNonsquare, NotElement, NoRoot}
 use Rattle.lines.proofs.Cuts.{cut_unique, no_cut}
 use Rattle.lines.proofs.Once.{written_once}
-use Rattle.lines.specs.Lines.{Content, Proper, written}
+use Rattle.lines.specs.Lines.{Content}
 use Rattle.prime_field.specs.ListedPrimes.{listed_prime, listed_odd}
 use Rattle.prime_field.specs.ModularLaws.{modular_laws}
 use Rattle.prime_field.specs.Making.{Listed, Nonresidue, RefusesMaking}
-use Rattle.prime_field.specs.Modular.{modular}
 use Rattle.quadratic.specs.PairLaws.{pair_laws}
 use Rattle.quadratic.specs.Pairs.{Nonsquare, pairs}
 use Rattle.quadratic.specs.Signs.{coordinates}
-use Rattle.quadratic.specs.Towers.{Height}
 use Rattle.unit.specs.Sealing.{Allowed, AllowedLength, RefusesSealing}
 use Rattle.code.specs.Generator.{Generates}
 use Rattle.unit.specs.declared.faults.UnitFault.{UnitFault}

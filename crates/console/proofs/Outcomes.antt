@@ -1,5 +1,5 @@
 -- What the program's answers stand for: lines out of order, and lines to a unit at a position.
-use Rattle.std.proofs.Common.{◌≡◌, ℕ, suc, ◌<◌, ◌⊎◌, List, [], ◌∷◌, Ok, Err, codes, Vec, sym, refl, ap, ◌∙◌, subst, inl, inr, arith}
+use Rattle.std.proofs.Common.{◌≡◌, ℕ, suc, ◌<◌, ◌⊎◌, List, Err, codes, Vec, sym, refl, ap, ◌∙◌, subst, inl, inr, arith}
 use Rattle.std.specs.declared.alloc.Global.{Global}
 use Rattle.algebra.specs.Operations.{Ops}
 use Rattle.algebra.specs.declared.faults.FieldFault.TheVariants.{NotNonsquare}

@@ -1,11 +1,11 @@
 -- How a session goes on: what is still to come does not matter to what was answered.
-use Rattle.std.proofs.Common.{◌≡◌, ℕ, zero, suc, ◌+◌, ◌<◌, ◌≤◌, Bool, true, false, List, [], ◌∷◌, ◌++◌, length, get_or, MatchBool, sym, refl, ap, ◌∙◌, subst, append_assoc, arith}
+use Rattle.std.proofs.Common.{◌≡◌, ℕ, zero, suc, ◌<◌, Bool, true, false, List, [], ◌∷◌, ◌++◌, length, MatchBool, sym, refl, ap, ◌∙◌, subst, append_assoc, arith}
 use Rattle.std.proofs.lemmas.List.{append-nil, length-append, flat_map_more}
 use Rattle.std.specs.Str.Iter.{LacksByte}
 use Rattle.std.specs.List.{flat_map}
-use Rattle.console.specs.Consoles.{AnswersOne, WritesOne, WritesLast, Holds, AnswersHeld, RefusesHeld}
-use Rattle.console.specs.Conversation.{Position, Response, refused, shown, ends, Answers}
-use Rattle.console.specs.Sessions.{Session, over, last, line, end, too_long, longest, line_after, Held, Waiting, initial, Responds, Continues, Output}
+use Rattle.console.specs.Consoles.{WritesOne, WritesLast, Holds, AnswersHeld, RefusesHeld}
+use Rattle.console.specs.Conversation.{Response, refused, shown, ends, Answers}
+use Rattle.console.specs.Sessions.{Session, over, last, line, end, too_long, line_after, Held, Waiting, initial, Responds, Continues, Output}
 use Rattle.console.specs.declared.faults.ShiftFault.TheVariants.{Unreadable}
 
 -- a console whose session goes on responds as the session does

@@ -1,5 +1,5 @@
 -- What comes of each line: which lines are in order, the response, and what is then fixed.
-use Rattle.std.specs.Prelude.{◌≡◌, ℕ, suc, ◌<◌, Bool, true, false, ◌||◌, List, [], ◌∷◌, ◌++◌, codes, ◌==◌, nat_le}
+use Rattle.std.specs.Prelude.{◌≡◌, ℕ, suc, ◌<◌, Bool, false, ◌||◌, List, ◌++◌, codes, ◌==◌, nat_le}
 use Rattle.algebra.specs.Operations.{Ops}
 use Rattle.algebra.specs.Refusals.{RefusesRoot}
 use Rattle.algebra.specs.Roots.{RootOf}

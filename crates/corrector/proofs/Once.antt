@@ -1,11 +1,8 @@
 -- A block is corrected in one way, or refused for one reason.
-use Rattle.std.proofs.Common.{◌≡◌, ℕ, ◌-◌, ◌<◌, ◌≤◌, ◌⊎◌, List, length, get_or, sym, refl, ap, ◌∙◌, subst, ap₂, inl, inr, arith}
+use Rattle.std.proofs.Common.{◌≡◌, ℕ, ◌-◌, ◌<◌, ◌≤◌, List, length, sym, refl, ap, ◌∙◌, ap₂, arith}
 use Rattle.std.proofs.ByRecursion.{All-get_or}
-use Rattle.std.proofs.lemmas.Bool.{cases_lt}
 use Rattle.algebra.specs.Laws.{Arithmetic}
 use Rattle.algebra.specs.Operations.{Ops, In}
-use Rattle.algebra.specs.declared.faults.FieldFault.{FieldFault}
-use Rattle.algebra.specs.declared.faults.FieldFault.TheVariants.{NotElement}
 use Rattle.code.specs.Blocks.{Elements, CodeWord₁, differ}
 use Rattle.code.specs.Generator.{Generates}
 use Rattle.code.specs.Refusals.{FirstNonElement}

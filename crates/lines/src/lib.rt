@@ -185,11 +185,11 @@ mod tests {
         let Some(Line::Alpha(alpha)) = read_line(heap, b"alpha=0")? else {
             return Err(Fail::new("alpha"));
         };
-        assert!(rt; alpha.as_slice() == &[0]);
+        assert!(rt; alpha.as_slice() == [0].as_slice());
         let Some(Line::Find(find)) = read_line(heap, b"find=1,2,3,4")? else {
             return Err(Fail::new("find"));
         };
-        assert!(rt; find.as_slice() == &[1, 2, 3, 4]);
+        assert!(rt; find.as_slice() == [1, 2, 3, 4].as_slice());
         Ok(())
     }
 
@@ -221,7 +221,7 @@ mod tests {
     fn writes_numbers(rt: HostRuntime) -> Result<(), Fail> {
         let mut out = Vec::new(rt.alloc());
         put_numbers(&mut out, &[0, 929, 4294967295])?;
-        assert!(rt; out.as_slice() == b"0,929,4294967295");
+        assert!(rt; out.as_slice() == b"0,929,4294967295".as_slice());
         Ok(())
     }
 }

@@ -1,5 +1,5 @@
 -- Prime numbers.
-use Rattle.std.specs.Prelude.{◌≡◌, ℕ, ◌*◌, ◌<◌, ◌≢◌}
+use Rattle.std.specs.Prelude.{ℕ, ◌*◌, ◌<◌, ◌≢◌}
 
 -- p is no product of two factors above 1; since this only denies, it has at most one proof
 abbrev pub Undivided : ℕ → Type 0

@@ -1,5 +1,5 @@
 -- Towers of any height, by induction.
-use Rattle.std.proofs.Common.{◌≡◌, ℕ, zero, cond, ◌&&◌, eqb, ◌++◌, sym, ap, ◌∙◌, ap₂}
+use Rattle.std.proofs.Common.{◌≡◌, ℕ, cond, ◌&&◌, eqb, sym, ap, ◌∙◌, ap₂}
 use mathlib.Core.Bool.{and-true}
 use Rattle.algebra.specs.Operations.{Ops, In}
 use Rattle.algebra.specs.Laws.{Laws}

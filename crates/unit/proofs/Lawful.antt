@@ -1,5 +1,5 @@
 -- The law at each order of a day.
-use Rattle.std.proofs.Common.{◌≡◌, ℕ, ◌<◌, ◌≤◌, true, List, [], ◌∷◌, length, is_ok, Ok, Err, sym, refl, ap, ◌∙◌, subst}
+use Rattle.std.proofs.Common.{◌≡◌, ℕ, ◌≤◌, true, List, ◌∷◌, length, is_ok, Ok, sym, subst}
 use Rattle.algebra.specs.Laws.{Laws}
 use Rattle.algebra.specs.Operations.{Ops}
 use Rattle.algebra.specs.Roots.{Rooted}

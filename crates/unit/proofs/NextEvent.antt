@@ -1,6 +1,6 @@
 -- How what is said of a day changes with one more event.
 use Rattle.std.proofs.Common.{◌≡◌, ℕ, suc, List, [], ◌∷◌, refl, subst}
-use Rattle.unit.specs.Days.{Event, Accepted, Since, here, later, NoneOf, Count, none, one, skip, IsSteering, Loaded}
+use Rattle.unit.specs.Days.{Event, Accepted, here, later, none, one, skip, IsSteering, Loaded}
 use Rattle.unit.specs.Law.{◌iff◌}
 use Rattle.unit.specs.declared.states.Kind.TheVariants.{Open, Block, Engage, Release}
 

@@ -1,5 +1,5 @@
 -- An order has one outcome.
-use Rattle.std.proofs.Common.{◌≡◌, ℕ, ◌+◌, ◌*◌, ◌<◌, ◌≤◌, ◌⊎◌, List, [], ◌∷◌, Ok, Err, Result, sym, refl, ap, ◌∙◌, subst, ap₂, inl, inr, ⊎_elim, arith}
+use Rattle.std.proofs.Common.{◌≡◌, ℕ, ◌+◌, ◌*◌, ◌<◌, ◌≤◌, ◌⊎◌, List, Ok, Err, Result, sym, refl, ap, ◌∙◌, subst, inl, inr, ⊎_elim, arith}
 use mathlib.Core.HLevel.{is_prop→PathP}
 use denote.Struct.Props.{props}
 use Rattle.std.proofs.lemmas.Bool.{cases_lt}
@@ -9,7 +9,7 @@ use Rattle.code.specs.Generator.{Generates}
 use Rattle.code.specs.declared.faults.CodeFault.{CodeFault}
 use Rattle.corrector.specs.Correction.{Corrected, Uncorrected}
 use Rattle.corrector.proofs.Once.{corrected_once, uncorrected_once, not_both_corrected}
-use Rattle.unit.specs.Days.{Event, event}
+use Rattle.unit.specs.Days.{event}
 use Rattle.unit.specs.Orders.{Stands, Advances, Refused, Transition, wrong_state, block_count, opened, out_of_turn, not_corrected, taken, granted, released, OrderedOnce}
 use Rattle.unit.specs.States.{Fits}
 use Rattle.unit.specs.declared.faults.UnitFault.{UnitFault}

@@ -5,7 +5,7 @@ use lib.Dec.{eqb_refl}
 use Rattle.algebra.specs.Operations.{Ops}
 use Rattle.unit.specs.Days.{Event, Accepted, Since, IsSteering, Loaded, InTurn, Grantable}
 use Rattle.unit.specs.Law.{◌iff◌}
-use Rattle.unit.specs.Orders.{Stands, Advances, Refused, Transition, wrong_state, block_count, opened, out_of_turn, not_corrected, taken, granted, released, Lived, sealed, ordered}
+use Rattle.unit.specs.Orders.{Advances, Refused, Transition, wrong_state, block_count, opened, out_of_turn, not_corrected, taken, granted, released, Lived, sealed, ordered}
 use Rattle.unit.specs.States.{state_number}
 use Rattle.unit.specs.declared.faults.UnitFault.{UnitFault}
 use Rattle.unit.specs.declared.progress.Progress.{Progress}

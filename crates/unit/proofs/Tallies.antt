@@ -1,7 +1,7 @@
 -- The counts of a unit are those of every day that it has lived.
-use Rattle.std.proofs.Common.{◌≡◌, ℕ, suc, ◌+◌, ◌<◌, true, List, [], ◌∷◌, is_ok, Ok, sym, refl, ap, ◌∙◌, subst, add-one, arith}
+use Rattle.std.proofs.Common.{◌≡◌, ℕ, suc, ◌+◌, ◌<◌, true, List, ◌∷◌, is_ok, Ok, sym, refl, ◌∙◌, subst, add-one, arith}
 use Rattle.algebra.specs.Operations.{Ops}
-use Rattle.unit.specs.Days.{Event, Accepted, Since, here, later, NoneOf, Count, none, one, skip}
+use Rattle.unit.specs.Days.{Event, Accepted, here, later, none, one, skip}
 use Rattle.unit.specs.Orders.{Transition, wrong_state, block_count, opened, out_of_turn, not_corrected, taken, granted, released, Lived, sealed, ordered}
 use Rattle.unit.specs.Reports.{InState, Changed, nothing, adds, passes, Tally, unopened}
 use Rattle.unit.specs.Reports as reports

@@ -1,4 +1,4 @@
-use Rattle.std.proofs.Common.{◌≡◌, ℕ, ◌+◌, ◌<◌, ◌≤◌, true, false, sym, ap, ◌∙◌, add-one, rules, below_more}
+use Rattle.std.proofs.Common.{◌≡◌, ◌≤◌, true, false, sym, ap, ◌∙◌, add-one, rules, below_more}
 use Rattle.algebra.specs.Powers.{power}
 use Rattle.code.proofs.generator.generates.Goals as goal
 

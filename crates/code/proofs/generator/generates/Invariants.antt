@@ -1,5 +1,5 @@
-use Rattle.std.proofs.Common.{◌≡◌, ℕ, ◌-◌, ◌<◌, ◌≤◌}
-use Rattle.algebra.specs.Operations.{Ops, In}
+use Rattle.std.proofs.Common.{◌≡◌, ℕ, ◌<◌, ◌≤◌}
+use Rattle.algebra.specs.Operations.{In}
 use Rattle.algebra.specs.Powers.{power}
 use Rattle.code.proofs.generator.generates.Given as goal
 

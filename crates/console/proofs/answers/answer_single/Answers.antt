@@ -1,4 +1,4 @@
-use Rattle.std.proofs.Common.{vec_items, sym, ap, subst}
+use Rattle.std.proofs.Common.{vec_items, ap, subst}
 use Rattle.lines.specs.Lines.{meant}
 use Rattle.prime_field.specs.Modular.{modular}
 use Rattle.console.specs.Commissions.{field_of, phase}

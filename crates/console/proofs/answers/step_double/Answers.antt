@@ -1,4 +1,4 @@
-use Rattle.std.proofs.Common.{sym, refl, ap, ◌∙◌, ap₂, arith}
+use Rattle.std.proofs.Common.{refl, ap, ap₂, arith}
 use Rattle.lines.specs.Lines.{step}
 use Rattle.prime_field.specs.Modular.{modular}
 use Rattle.quadratic.specs.Pairs.{pairs}

@@ -1,4 +1,4 @@
-use Rattle.std.proofs.Common.{[], vec_items}
+use Rattle.std.proofs.Common.{vec_items}
 use Rattle.std.proofs.lemmas.Option.{MatchOption-at_some, MatchOption-at_none}
 use Rattle.console.specs.Consoles.{waiting}
 use Rattle.console.proofs.Streaming.{reads_none, reads_one, reads_all}

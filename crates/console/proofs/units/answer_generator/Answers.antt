@@ -1,4 +1,4 @@
-use Rattle.std.proofs.Common.{codes, sym, refl, ap, ◌∙◌, subst, inl}
+use Rattle.std.proofs.Common.{codes, sym, ap, ◌∙◌, subst, inl}
 use Rattle.lines.specs.Lines.{meant, len}
 use Rattle.console.specs.Conversation.{alpha_given, sealed, accepted, refused, UnitOutcome, sealed_with, not_sealed}
 use Rattle.console.specs.Handling.{UnitHandled}

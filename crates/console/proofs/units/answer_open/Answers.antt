@@ -1,4 +1,4 @@
-use Rattle.std.proofs.Common.{vec_items, codes, sym, refl, ◌∙◌, subst, inl}
+use Rattle.std.proofs.Common.{codes, sym, refl, ◌∙◌, subst, inl}
 use Rattle.lines.specs.Lines.{meant}
 use Rattle.console.specs.Conversation.{unsealed, alpha_given, accepted, UnitInOrder, alpha_kept}
 use Rattle.console.specs.Handling.{UnitHandled}

@@ -1,8 +1,8 @@
-use Rattle.std.proofs.Common.{◌≡◌, ◌-◌, ◌<◌, [], ◌∷◌, length, take, drop, vec_items, sym, ap, ◌∙◌, subst, arith, length-append, length-drop, length-take}
+use Rattle.std.proofs.Common.{◌-◌, [], ◌∷◌, length, take, drop, vec_items, sym, subst, arith, length-append, length-drop, length-take}
 use Rattle.std.proofs.lemmas.List.{append-nil}
 use Rattle.console.specs.Consoles.{waiting, Holds}
 use Rattle.console.specs.Replies.{response}
-use Rattle.console.proofs.Streaming.{continues_ended, continues_held, continues_too_long, continues_line, shorter}
+use Rattle.console.proofs.Streaming.{continues_held, continues_too_long, continues_line, shorter}
 use Rattle.console.proofs.console.Console.feed_line.Goals as goal
 
 pub returns-then-branch : goal.returns-then-branch

@@ -1,4 +1,4 @@
-use Rattle.std.proofs.Common.{◌≡◌, sym, ap, ◌∙◌, subst, arith, true-eqb, false-eqb}
+use Rattle.std.proofs.Common.{arith, true-eqb, false-eqb}
 use Rattle.console.specs.Consoles.{waiting}
 use Rattle.console.specs.Replies.{response}
 use Rattle.console.proofs.Streaming.{over_none, over_ended, over_line}

@@ -1,7 +1,7 @@
-use Rattle.std.proofs.Common.{◌≡◌, ℕ, ◌+◌, ◌<◌, ◌≤◌, ◌≢◌, List, [], ◌∷◌, ◌++◌, length, get_or, take, set, Some, vec_len, sym, refl, ap, ◌∙◌, subst, arith}
+use Rattle.std.proofs.Common.{◌≡◌, ◌+◌, ◌<◌, ◌≢◌, [], ◌∷◌, ◌++◌, length, get_or, take, set, Some, vec_len, sym, refl, ap, ◌∙◌, subst, arith}
 use Rattle.std.specs.Vec.{with_items}
 use Rattle.std.proofs.lemmas.List.{with_items_is, take_more, take_more_set, take_all, get_or-set_other}
-use Rattle.unit.specs.Days.{Event, event}
+use Rattle.unit.specs.Days.{event}
 use Rattle.unit.specs.Tasks.{Came, none, Carried}
 use Rattle.unit.specs.declared.tasks.Task.{Task}
 use Rattle.unit.proofs.TaskEvents.{carried_more}
