@@ -1,6 +1,6 @@
 -- The difference of two blocks as terms at powers of the generator, one for each place where they differ.
 use Rattle.std.proofs.Common.{◌≡◌, ℕ, suc, ◌*◌, ◌<◌, ◌≤◌, Bool, true, false, cond, List, [], ◌∷◌, length, sym, refl, ap, ◌∙◌, ap₂, mul_comm, arith}
-use Rattle.std.specs.List.{AllByRecursion as All}
+use Rattle.std.specs.List.{AllByRecursion}
 use Rattle.std.proofs.ByRecursion.{All-weaker}
 use Rattle.algebra.specs.Operations.{Ops, In, minus}
 use Rattle.algebra.specs.Laws.{Arithmetic}
@@ -66,12 +66,12 @@ module _ {E : Type 0} {o : Ops E} (l : Arithmetic o) (α : E) (n : ℕ) (g : Gen
 
   -- where each term is zero the blocks are equal
   equal_place : (b : Bool) (x y : E) (hx : In o x) (hy : In o y) (k : ℕ) (ts : List (Term o)) → (b ≡ true → x ≡ y)
-      → All (λ t. t.e ≡ 𝟘) (cond b ts (term (minus o x y) (minus_in l hx hy) k ∷ ts)) → (x ≡ y) × All (λ t. t.e ≡ 𝟘) ts
+      → AllByRecursion (λ t. t.e ≡ 𝟘) (cond b ts (term (minus o x y) (minus_in l hx hy) k ∷ ts)) → (x ≡ y) × AllByRecursion (λ t. t.e ≡ 𝟘) ts
   equal_place true x y hx hy k ts q a = (q refl, a)
   equal_place false x y hx hy k ts q a = (minus_zero l x y hx hy a.0, a.1)
 
   pub equal_terms : (xs ys : List E) (hx : Elements o xs) (hy : Elements o ys) → length xs ≡ length ys
-      → All (λ t. t.e ≡ 𝟘) (terms xs ys hx hy) → xs ≡ ys
+      → AllByRecursion (λ t. t.e ≡ 𝟘) (terms xs ys hx hy) → xs ≡ ys
   equal_terms [] [] hx hy e a = refl
   equal_terms [] (y ∷ ys) hx hy e a = absurd (omega (arith, e))
   equal_terms (x ∷ xs) [] hx hy e a = absurd (omega (arith, e))
@@ -80,12 +80,12 @@ module _ {E : Type 0} {o : Ops E} (l : Arithmetic o) (α : E) (n : ℕ) (g : Gen
       ap₂ (λ z zs. z ∷ zs) p.0 (equal_terms xs ys hx.1 hy.1 (omega (arith, e)) p.1)
 
   -- no term is zero
-  nonzero_place : (b : Bool) (x y : E) (hx : In o x) (hy : In o y) (k : ℕ) (ts : List (Term o)) → o.same x y ≡ b → All (λ t. t.e ≡ 𝟘 → ⊥) ts
-      → All (λ t. t.e ≡ 𝟘 → ⊥) (cond b ts (term (minus o x y) (minus_in l hx hy) k ∷ ts))
+  nonzero_place : (b : Bool) (x y : E) (hx : In o x) (hy : In o y) (k : ℕ) (ts : List (Term o)) → o.same x y ≡ b → AllByRecursion (λ t. t.e ≡ 𝟘 → ⊥) ts
+      → AllByRecursion (λ t. t.e ≡ 𝟘 → ⊥) (cond b ts (term (minus o x y) (minus_in l hx hy) k ∷ ts))
   nonzero_place true x y hx hy k ts e a = a
   nonzero_place false x y hx hy k ts e a = (λ z. same_not l x y hx e (minus_zero l x y hx hy z), a)
 
-  pub nonzero_terms : (xs ys : List E) (hx : Elements o xs) (hy : Elements o ys) → All (λ t. t.e ≡ 𝟘 → ⊥) (terms xs ys hx hy)
+  pub nonzero_terms : (xs ys : List E) (hx : Elements o xs) (hy : Elements o ys) → AllByRecursion (λ t. t.e ≡ 𝟘 → ⊥) (terms xs ys hx hy)
   nonzero_terms [] ys hx hy = tt
   nonzero_terms (x ∷ xs) [] hx hy = tt
   nonzero_terms (x ∷ xs) (y ∷ ys) hx hy = nonzero_place (o.same x y) x y hx.0 hy.0 (length xs) _ refl (nonzero_terms xs ys hx.1 hy.1)
@@ -94,19 +94,19 @@ module _ {E : Type 0} {o : Ops E} (l : Arithmetic o) (α : E) (n : ℕ) (g : Gen
   abbrev pub Placed : ℕ → Term o → Type 0
   Placed m t = (k : ℕ) × (k < m) × (t.X ≡ power o α k)
 
-  placed_more : (m : ℕ) (ts : List (Term o)) → All (Placed m) ts → All (Placed (suc m)) ts
+  placed_more : (m : ℕ) (ts : List (Term o)) → AllByRecursion (Placed m) ts → AllByRecursion (Placed (suc m)) ts
   placed_more m ts a = All-weaker (Placed m) (Placed (suc m)) (λ t h. (h.0, omega (arith, h.1), h.2)) ts a
 
-  placed_place : (b : Bool) (e : E) (he : In o e) (k : ℕ) (ts : List (Term o)) → All (Placed k) ts → All (Placed (suc k)) (cond b ts (term e he k ∷ ts))
+  placed_place : (b : Bool) (e : E) (he : In o e) (k : ℕ) (ts : List (Term o)) → AllByRecursion (Placed k) ts → AllByRecursion (Placed (suc k)) (cond b ts (term e he k ∷ ts))
   placed_place true e he k ts a = placed_more k ts a
   placed_place false e he k ts a = ((k, omega arith, refl), placed_more k ts a)
 
-  pub placed_terms : (xs ys : List E) (hx : Elements o xs) (hy : Elements o ys) → All (Placed (length xs)) (terms xs ys hx hy)
+  pub placed_terms : (xs ys : List E) (hx : Elements o xs) (hy : Elements o ys) → AllByRecursion (Placed (length xs)) (terms xs ys hx hy)
   placed_terms [] ys hx hy = tt
   placed_terms (x ∷ xs) [] hx hy = tt
   placed_terms (x ∷ xs) (y ∷ ys) hx hy = placed_place (o.same x y) _ _ (length xs) _ (placed_terms xs ys hx.1 hy.1)
 
-  apart_place : (b : Bool) (e : E) (he : In o e) (k : ℕ) (ts : List (Term o)) → k < n → All (Placed k) ts → Apart ts
+  apart_place : (b : Bool) (e : E) (he : In o e) (k : ℕ) (ts : List (Term o)) → k < n → AllByRecursion (Placed k) ts → Apart ts
       → Apart (cond b ts (term e he k ∷ ts))
   apart_place true e he k ts h a p = p
   apart_place false e he k ts h a p =

@@ -1,6 +1,6 @@
 -- Terms e·X^j at different X: where as many successive sums are zero as there are terms, each e is zero.
 use Rattle.std.proofs.Common.{◌≡◌, ℕ, suc, ◌+◌, ◌<◌, List, [], ◌∷◌, length, refl, ap, ◌∙◌, ap₂, add-zero, add-suc, arith}
-use Rattle.std.specs.List.{AllByRecursion as All}
+use Rattle.std.specs.List.{AllByRecursion}
 use Rattle.algebra.specs.Operations.{Ops, In, minus}
 use Rattle.algebra.specs.Laws.{Arithmetic}
 use Rattle.algebra.specs.Powers.{power}
@@ -24,12 +24,12 @@ weighted o w (t ∷ ts) j = o.add (o.mul t.e (o.mul (w t.X) (power o t.X j))) (w
 -- no two terms have the same X
 abbrev pub Apart : {E : Type 0} {o : Ops E} → List (Term o) → Type 0
 Apart [] = Unit {0}
-Apart (t ∷ ts) = All (λ u. u.X ≡ t.X → ⊥) ts × Apart ts
+Apart (t ∷ ts) = AllByRecursion (λ u. u.X ≡ t.X → ⊥) ts × Apart ts
 
 -- w gives elements, and at the terms none that is zero
 pub record Weight {E : Type 0} (o : Ops E) (w : E → E) (ts : List (Term o)) : Type 0 where
   pub inside : (x : E) → In o x → In o (w x)
-  pub nonzero : All (λ t. w t.X ≡ o.zero → ⊥) ts
+  pub nonzero : AllByRecursion (λ t. w t.X ≡ o.zero → ⊥) ts
 
 module _ {E : Type 0} {o : Ops E} (l : Arithmetic o) where
   open o use {zero as 𝟘, one as 𝟙, add as ◌⊹◌, mul as ◌·◌, neg}
@@ -65,7 +65,7 @@ module _ {E : Type 0} {o : Ops E} (l : Arithmetic o) where
       (search reads depth 40 fits 5000) refl
 
   vanishing_nonzero : (w : E → E) (t : Term o) (ts : List (Term o)) → ((x : E) → In o x → In o (w x))
-      → All (λ u. u.X ≡ t.X → ⊥) ts → All (λ u. w u.X ≡ 𝟘 → ⊥) ts → All (λ u. vanishing t.X w u.X ≡ 𝟘 → ⊥) ts
+      → AllByRecursion (λ u. u.X ≡ t.X → ⊥) ts → AllByRecursion (λ u. w u.X ≡ 𝟘 → ⊥) ts → AllByRecursion (λ u. vanishing t.X w u.X ≡ 𝟘 → ⊥) ts
   vanishing_nonzero w t [] hw a n = tt
   vanishing_nonzero w t (u ∷ ts) hw a n = (
     λ z. a.0 (minus_zero l u.X t.X u.X_in t.X_in
@@ -74,20 +74,20 @@ module _ {E : Type 0} {o : Ops E} (l : Arithmetic o) where
   )
 
   -- where each e is zero, so is the sum
-  weighted_zero : (w : E → E) (ts : List (Term o)) (j : ℕ) → ((x : E) → In o x → In o (w x)) → All (λ t. t.e ≡ 𝟘) ts → weighted o w ts j ≡ 𝟘
+  weighted_zero : (w : E → E) (ts : List (Term o)) (j : ℕ) → ((x : E) → In o x → In o (w x)) → AllByRecursion (λ t. t.e ≡ 𝟘) ts → weighted o w ts j ≡ 𝟘
   weighted_zero w [] j hw z = refl
   weighted_zero w (t ∷ ts) j hw z =
       ap₂ (λ e s. e · (w t.X · power o t.X j) ⊹ s) z.0 (weighted_zero w ts j hw z.1)
       ∙ by_ring l ((w t.X, hw t.X t.X_in) ∷ (power o t.X j, power_in l t.X j t.X_in) ∷ []) (search reads depth 40) refl
 
   pub eliminate : (w : E → E) (ts : List (Term o)) (j : ℕ) → Weight o w ts → Apart ts
-      → ((k : ℕ) → k < length ts → weighted o w ts (j + k) ≡ 𝟘) → All (λ t. t.e ≡ 𝟘) ts
+      → ((k : ℕ) → k < length ts → weighted o w ts (j + k) ≡ 𝟘) → AllByRecursion (λ t. t.e ≡ 𝟘) ts
   eliminate w [] j hw a z = tt
   eliminate w (t ∷ ts) j hw a z =
       let next : (k : ℕ) → k < length ts → weighted o (vanishing t.X w) ts (j + k) ≡ 𝟘 =
       λ k h. let up : weighted o w (t ∷ ts) (suc (j + k)) ≡ 𝟘 = rw add-suc at (z (suc k) (omega arith)) in
       without_first w t ts (j + k) hw.inside (z k (omega arith)) up in
-      let others : All (λ u. u.e ≡ 𝟘) ts =
+      let others : AllByRecursion (λ u. u.e ≡ 𝟘) ts =
       eliminate (vanishing t.X w) ts j
       (record {
         inside = λ x hx. l.mul_in _ _ (hw.inside x hx) (minus_in l hx t.X_in);

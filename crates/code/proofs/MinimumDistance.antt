@@ -1,7 +1,7 @@
 -- Different code words differ in at least five places, so at most one is within two of a block.
 use Rattle.std.proofs.Common.{◌≡◌, ℕ, ◌+◌, ◌<◌, ◌≤◌, List, [], ◌∷◌, length, sym, ◌∙◌, ap₂, arith}
 use native.Mathlib.Decide.{dec_le}
-use Rattle.std.specs.List.{AllByRecursion as All}
+use Rattle.std.specs.List.{AllByRecursion}
 use Rattle.algebra.specs.Operations.{Ops, minus}
 use Rattle.algebra.specs.Laws.{Arithmetic}
 use Rattle.code.specs.Blocks.{Elements, CodeWord, differ}
@@ -12,7 +12,7 @@ use Rattle.code.proofs.Differences.{terms, length_terms, weighted_terms, equal_t
 use Rattle.code.proofs.Counting.{differ_triangle}
 
 module _ {E : Type 0} {o : Ops E} (l : Arithmetic o) where
-  one_nonzero : (ts : List (Term o)) → All (λ t. o.one ≡ o.zero → ⊥) ts
+  one_nonzero : (ts : List (Term o)) → AllByRecursion (λ t. o.one ≡ o.zero → ⊥) ts
   one_nonzero [] = tt
   one_nonzero (t ∷ ts) = (l.one_not_zero, one_nonzero ts)
 

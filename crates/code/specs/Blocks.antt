@@ -1,12 +1,12 @@
 -- Blocks of symbols in sending order, their sums, code words, and how far two blocks differ.
 use Rattle.std.specs.Prelude.{◌≡◌, ℕ, suc, ◌+◌, ◌-◌, ◌*◌, ◌<◌, cond, List, [], ◌∷◌, length, take}
-use Rattle.std.specs.List.{AllByRecursion as All}
+use Rattle.std.specs.List.{AllByRecursion}
 use Rattle.algebra.specs.Operations.{Ops, In}
 use Rattle.algebra.specs.Powers.{power}
 
 -- every symbol is an element
 abbrev pub Elements : {E : Type 0} → Ops E → List E → Type 0
-Elements o block = All (In o) block
+Elements o block = AllByRecursion (In o) block
 
 -- Sⱼ: each symbol times α^(j·place), added up. The place of a symbol is the number of symbols sent after it.
 abbrev pub Sum : {E : Type 0} → Ops E → E → ℕ → List E → E

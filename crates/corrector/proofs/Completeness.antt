@@ -1,7 +1,7 @@
 -- A code word within two symbols shows in the sums as none, one or two wrong symbols, and none of these escapes the corrector.
 use Rattle.std.proofs.Common.{◌≡◌, ℕ, ◌+◌, ◌<◌, ◌≤◌, ◌⊎◌, List, [], ◌∷◌, length, sym, refl, ap, ◌∙◌, ap₂, inl, inr, ⊎_elim, arith}
 use native.Mathlib.Decide.{dec_le}
-use Rattle.std.specs.List.{AllByRecursion as All}
+use Rattle.std.specs.List.{AllByRecursion}
 use Rattle.algebra.specs.Operations.{Ops, minus}
 use Rattle.algebra.specs.Laws.{Arithmetic}
 use Rattle.algebra.specs.Powers.{power}
@@ -35,7 +35,7 @@ module _ {E : Type 0} {o : Ops E} (l : Arithmetic o) (α : E) (block : List E) (
   abbrev SumsAre : List (Term o) → Type 0
   SumsAre ts = (i : ℕ) → i < 4 → Sum o α (1 + i) block ≡ weighted o (λ _. 𝟙) ts (1 + i)
 
-  by_terms : (ts : List (Term o)) → All (λ t. t.e ≡ 𝟘 → ⊥) ts → All (Placed l α (length block) g (length block)) ts → Apart ts → length ts ≤ 2
+  by_terms : (ts : List (Term o)) → AllByRecursion (λ t. t.e ≡ 𝟘 → ⊥) ts → AllByRecursion (Placed l α (length block) g (length block)) ts → Apart ts → length ts ≤ 2
       → SumsAre ts → Errors
   by_terms [] nonzero placed apart h w =
       inl (is.one ∙ w 0 (omega arith), is.two ∙ w 1 (omega arith), is.three ∙ w 2 (omega arith), is.four ∙ w 3 (omega arith))

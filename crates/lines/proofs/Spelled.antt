@@ -1,7 +1,7 @@
 -- Facts on lists of numerals with commas between them, and the steps of reading and of writing one.
 use Rattle.std.proofs.Common.{◌≡◌, ℕ, ◌+◌, ◌<◌, ◌≤◌, List, [], ◌∷◌, ◌++◌, length, get_or, take, sym, refl, ap, ◌∙◌, arith}
 use Rattle.std.specs.Str.Iter.{LacksByte}
-use Rattle.std.specs.List.{flat_map, AllByRecursion as All}
+use Rattle.std.specs.List.{flat_map, AllByRecursion}
 use Rattle.std.proofs.lemmas.List.{append_assoc, append-nil, flat_map_more, length-append, length_push, take_more, take_all}
 use Rattle.std.proofs.ByRecursion.{All-push}
 use Rattle.lines.specs.Numbers.{numeral, spelled, Fits32, NumberList}
@@ -72,7 +72,7 @@ spelled_push (u ∷ us) v =
 -- the values read, each with the comma after it, and the rest make the whole text; if the whole spells a list, so does the rest
 pub record ListSoFar (whole values rest : List ℕ) : Type 0 where
   pub text : whole ≡ flat_map before_comma values ++ rest
-  pub fit : All Fits32 values
+  pub fit : AllByRecursion Fits32 values
   pub left : (ws : List ℕ) → NumberList ws → whole ≡ spelled ws → (us : List ℕ) × NumberList us × (rest ≡ spelled us)
 
 pub list_more : (whole values rest front more : List ℕ) (v : ℕ) → ListSoFar whole values rest → rest ≡ front ++ 44 ∷ more → LacksByte 44 front → Fits32 v × (front ≡ numeral v) → ListSoFar whole (values ++ v ∷ []) more
@@ -117,7 +117,7 @@ rest_shorter rest front more e = omega (arith, ap length e, length-append front 
 spelled_some : (v : ℕ) (vs : List ℕ) → Fits32 v → 0 < length (spelled (v ∷ vs))
 spelled_some v vs h = omega (arith, length-append (numeral v) (flat_map after_comma vs), numeral_some v h)
 
-pub spelled_injective : (us vs : List ℕ) → All Fits32 us → All Fits32 vs → spelled us ≡ spelled vs → us ≡ vs
+pub spelled_injective : (us vs : List ℕ) → AllByRecursion Fits32 us → AllByRecursion Fits32 vs → spelled us ≡ spelled vs → us ≡ vs
 spelled_injective [] [] a b e = refl
 spelled_injective [] (v ∷ vs) a b e = absurd (omega (arith, ap length e, spelled_some v vs b.0))
 spelled_injective (u ∷ us) [] a b e = absurd (omega (arith, ap length e, spelled_some u us a.0))

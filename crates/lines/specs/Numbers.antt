@@ -1,6 +1,6 @@
 -- How numbers and lists of numbers are written in decimal, and what it is to read a text back.
 use Rattle.std.specs.Prelude.{◌≡◌, ℕ, ◌^◌, ◌<◌, List, [], ◌∷◌, ◌++◌, length, Some, None, decimal, Option, ◌≢◌}
-use Rattle.std.specs.List.{flat_map, AllByRecursion as All}
+use Rattle.std.specs.List.{flat_map, AllByRecursion}
 
 -- the decimal digits of n, most significant first; no leading zero, but 0 itself is "0"
 abbrev pub numeral : ℕ → List ℕ
@@ -16,7 +16,7 @@ spelled (v ∷ vs) = numeral v ++ flat_map (λ w. 44 ∷ numeral w) vs
 
 -- one number or more, each of at most 32 bits
 abbrev pub NumberList : List ℕ → Type 0
-NumberList vs = (0 < length vs) × All Fits32 vs
+NumberList vs = (0 < length vs) × AllByRecursion Fits32 vs
 
 -- r is the answer of an exact reader of text: Some y means something proper, whose writing the text is;
 -- None says that the text is the writing of nothing proper

@@ -1,6 +1,6 @@
 -- Worked values, gathered in one list.
 use Rattle.std.specs.Prelude.{ℕ, List, [], ◌∷◌, Some, None, Option}
-use Rattle.std.specs.List.{AllByRecursion as All}
+use Rattle.std.specs.List.{AllByRecursion}
 use Rattle.algebra.specs.Roots.{AnswersRoot}
 use Rattle.prime_field.specs.Modular.{modular}
 use Rattle.quadratic.specs.Pairs.{pairs}
@@ -40,4 +40,4 @@ worked_values =
     ∷ []
 
 abbrev pub WorkedValuesHold : Type 0
-WorkedValuesHold = All Holds worked_values
+WorkedValuesHold = AllByRecursion Holds worked_values
