@@ -21,10 +21,10 @@ pub record Arithmetic {E : Type 0} (o : Ops E) : Type 0 where
   pub add_zero : (a : E) → In o a → o.add a o.zero ≡ a
   pub mul_one : (a : E) → In o a → o.mul a o.one ≡ a
   pub add_neg : (a : E) → In o a → o.add a (o.neg a) ≡ o.zero
-  pub mul_inv : (a : E) → In o a → (a ≢ o.zero) → o.mul a (o.inv a) ≡ o.one
+  pub mul_inv : (a : E) → In o a → a ≢ o.zero → o.mul a (o.inv a) ≡ o.one
   pub inv_zero : o.inv o.zero ≡ o.zero
-  pub one_not_zero : o.one ≡ o.zero → ⊥
-  pub two_not_zero : o.add o.one o.one ≡ o.zero → ⊥
+  pub one_not_zero : o.one ≢ o.zero
+  pub two_not_zero : o.add o.one o.one ≢ o.zero
 
 -- Of a, b and their product, at least one is a square.
 abbrev pub SquareLaw : {E : Type 0} → Ops E → Type 0
@@ -33,7 +33,7 @@ SquareLaw {E} o = (a b : E) → In o a → In o b → Square o a ⊎ (Square o b
 -- Zero has sign 0; of any other element and its negative, one has sign 0 and the other sign 1.
 pub record SignLaw {E : Type 0} (o : Ops E) : Type 0 where
   pub of_zero : o.sign o.zero ≡ 0
-  pub of_negative : (a : E) → In o a → (a ≢ o.zero) → o.sign a + o.sign (o.neg a) ≡ 1
+  pub of_negative : (a : E) → In o a → a ≢ o.zero → o.sign a + o.sign (o.neg a) ≡ 1
 
 -- All the laws. Only roots rest on the last two.
 pub record Laws {E : Type 0} (o : Ops E) : Type 0 where

@@ -31,7 +31,7 @@ pub trait Field {
         ensures { result ≡ (ops self.now).is a };
 
     fn equal(&self, a: Self::Elem, b: Self::Elem) -> bool
-        requires { (sound self.now) × ((In (ops self.now) a) × (In (ops self.now) b)) }
+        requires { sound self.now × In (ops self.now) a × In (ops self.now) b }
         ensures value { result ≡ (ops self.now).same a b }
         ensures tells { Decides result (a ≡ b) };
 
@@ -46,29 +46,29 @@ pub trait Field {
         ensures inside { In (ops self.now) result };
 
     fn add(&self, a: Self::Elem, b: Self::Elem) -> Self::Elem
-        requires { (sound self.now) × ((In (ops self.now) a) × (In (ops self.now) b)) }
+        requires { sound self.now × In (ops self.now) a × In (ops self.now) b }
         ensures value { result ≡ (ops self.now).add a b }
         ensures inside { In (ops self.now) result };
 
     fn mul(&self, a: Self::Elem, b: Self::Elem) -> Self::Elem
-        requires { (sound self.now) × ((In (ops self.now) a) × (In (ops self.now) b)) }
+        requires { sound self.now × In (ops self.now) a × In (ops self.now) b }
         ensures value { result ≡ (ops self.now).mul a b }
         ensures inside { In (ops self.now) result };
 
     fn neg(&self, a: Self::Elem) -> Self::Elem
-        requires { (sound self.now) × (In (ops self.now) a) }
+        requires { sound self.now × In (ops self.now) a }
         ensures value { result ≡ (ops self.now).neg a }
         ensures inside { In (ops self.now) result };
 
     // The inverse of a; that of zero is zero.
     fn inv(&self, a: Self::Elem) -> Self::Elem
-        requires { (sound self.now) × (In (ops self.now) a) }
+        requires { sound self.now × In (ops self.now) a }
         ensures value { result ≡ (ops self.now).inv a }
         ensures inside { In (ops self.now) result };
 
     // The sign of a: 0 or 1, and of an element other than zero the opposite of its negative's.
     fn sign(&self, a: Self::Elem) -> u8
-        requires { (sound self.now) × (In (ops self.now) a) }
+        requires { sound self.now × In (ops self.now) a }
         ensures { result ≡ (ops self.now).sign a };
 
     ghost laws: { (f : Self) → sound f → Laws (ops f) };
@@ -78,7 +78,7 @@ pub trait Field {
 pub trait RootedField: Field {
     // The element of sign 0 whose product with itself is a; absent exactly when there is none.
     fn root(&self, a: Self::Elem) -> Option<Self::Elem>
-        requires { (Self.Field.sound self.now) × (In (Self.Field.ops self.now) a) }
+        requires { Self.Field.sound self.now × In (Self.Field.ops self.now) a }
         ensures { AnswersRoot (Self.Field.ops self.now) a result };
 
     // in the field's meaning, each element has a root or is no square

@@ -7,4 +7,4 @@ use Rattle.code.specs.Generator.{Generates}
 -- For every generator, length and first exponent, different code words differ in at least five places.
 abbrev pub DistanceFive : {E : Type 0} → Ops E → Type 0
 DistanceFive {E} o =
-    (first : ℕ) (α : E) (n : ℕ) (b c : List E) → Generates o α n → CodeWord o first α n b → CodeWord o first α n c → (b ≢ c) → 5 ≤ differ o b c
+    (first : ℕ) (α : E) (n : ℕ) (b c : List E) → Generates o α n → CodeWord o first α n b → CodeWord o first α n c → b ≢ c → 5 ≤ differ o b c

@@ -28,21 +28,21 @@ pub record FirstNonElement {E : Type 0} (o : Ops E) (n : ℕ) (symbols : List E)
   pub place : k ≡ n - 1 - index
 
 -- Length: n symbols are due, and the block has m, another number
-abbrev pub Length_due : {E : Type 0} → ℕ → List E → ℕ → Type 0
-Length_due n block m = (m ≡ length block) × (length block ≢ n)
+abbrev pub LengthDue : {E : Type 0} → ℕ → List E → ℕ → Type 0
+LengthDue n block m = (m ≡ length block) × (length block ≢ n)
 
 -- Symbol: of the symbols that have to be elements, the first that is none is at the place k
-abbrev pub Symbol_due : {E : Type 0} → Ops E → ℕ → List E → List E → ℕ → FieldFault → Type 0
-Symbol_due o n block symbols k fault = (length block ≡ n) × FirstNonElement o n symbols k × (fault ≡ NotElement)
+abbrev pub SymbolDue : {E : Type 0} → Ops E → ℕ → List E → List E → ℕ → FieldFault → Type 0
+SymbolDue o n block symbols k fault = (length block ≡ n) × FirstNonElement o n symbols k × (fault ≡ NotElement)
 
 -- the two refusals that come before any work: another length, or a symbol among those to be checked that is no element
 abbrev pub Misshapen : {E : Type 0} → Ops E → ℕ → List E → List E → CodeFault → Type 0
-Misshapen o n block symbols (Length m) = Length_due n block m
-Misshapen o n block symbols (Symbol k fault) = Symbol_due o n block symbols k fault
+Misshapen o n block symbols (Length m) = LengthDue n block m
+Misshapen o n block symbols (Symbol k fault) = SymbolDue o n block symbols k fault
 Misshapen o n block symbols NoCodeWord = ⊥
 
 -- NoCodeWord: every code word differs from the block in more than two symbols
-pub record NoCodeWord_due {E : Type 0} (o : Ops E) (α : E) (n : ℕ) (block : List E) : Type 0 where
+pub record NoCodeWordDue {E : Type 0} (o : Ops E) (α : E) (n : ℕ) (block : List E) : Type 0 where
   pub long : length block ≡ n
   pub inside : Elements o block
   pub far : (word : List E) → CodeWord₁ o α n word → 2 < differ o block word

@@ -44,7 +44,7 @@ fn solve_quadratic<F: RootedField>(
 
 // What is wrong at the place of x, beside a wrong symbol at that of y.
 fn error_magnitude<F: Field>(field: &F, s: Syndromes<F::Elem>, x: F::Elem, y: F::Elem) -> F::Elem
-    requires { (F.Field.sound field.now) × ((Inside (F.Field.ops field.now) s) × ((In (F.Field.ops field.now) x) × (In (F.Field.ops field.now) y))) }
+    requires { F.Field.sound field.now × Inside (F.Field.ops field.now) s × In (F.Field.ops field.now) x × In (F.Field.ops field.now) y }
     ensures value { result ≡ magnitude (F.Field.ops field.now) s x y }
     ensures inside { In (F.Field.ops field.now) result }
 {

@@ -34,7 +34,7 @@ pub fn syndromes_of<F: Field>(field: &F, alpha: F::Elem, block: &[F::Elem]) -> S
 }
 
 pub fn all_zero<F: Field>(field: &F, s: Syndromes<F::Elem>) -> bool
-    requires { (F.Field.sound field.now) × (Inside (F.Field.ops field.now) s) }
+    requires { F.Field.sound field.now × Inside (F.Field.ops field.now) s }
     ensures { Decides result (AllZero (F.Field.ops field.now) s) }
 {
     let zero = field.zero();

@@ -9,7 +9,7 @@ use Rattle.prime_field.specs.ModularLaws.{modular_laws}
 use Rattle.prime_field.specs.TrialDivision.{trial_prime}
 use Rattle.code.specs.Blocks.{Elements, Sum, CodeWord₁, data_of, differ}
 use Rattle.code.specs.Generator.{Generates}
-use Rattle.code.specs.Refusals.{NoCodeWord_due}
+use Rattle.code.specs.Refusals.{NoCodeWordDue}
 use Rattle.code.proofs.Counting.{differ_take}
 use Rattle.code.proofs.MinimumDistance.{equal_words}
 use Rattle.writer.specs.Writing.{Written}
@@ -70,7 +70,7 @@ word_of d = d ∷ (809 * d) % 929 ∷ (723 * d) % 929 ∷ (568 * d) % 929 ∷ (5
 abbrev far? : List ℕ → ℕ → Bool
 far? block d = code_word? (word_of d) && ltb 2 (differ o block (word_of d))
 
-pub refused : (block : List ℕ) → length block ≡ 5 → elements? block ≡ true → all_below (far? block) 929 ≡ true → NoCodeWord_due o 3 5 block
+pub refused : (block : List ℕ) → length block ≡ 5 → elements? block ≡ true → all_below (far? block) 929 ≡ true → NoCodeWordDue o 3 5 block
 refused block long inside t = record { long = long; inside = elements block inside; far = far }
   where
     far : (word : List ℕ) → CodeWord₁ o 3 5 word → 2 < differ o block word

@@ -4,11 +4,11 @@ use Rattle.std.specs.List.{AllByRecursion}
 use Rattle.algebra.specs.Roots.{AnswersRoot}
 use Rattle.prime_field.specs.Modular.{modular}
 use Rattle.quadratic.specs.Pairs.{pairs}
-use Rattle.code.specs.Refusals.{NoCodeWord_due}
+use Rattle.code.specs.Refusals.{NoCodeWordDue}
 use Rattle.writer.specs.Writing.{Written}
 
 -- `root p a r`: modulo p the root of a is r, or a has none
--- `pair-root p β a r`: the same of a pair a of numbers modulo p, where y² = β
+-- `pair_root p β a r`: the same of a pair a of numbers modulo p, where y² = β
 -- `encodes α n block`: modulo 929 the writer leaves this block for its data: a code word, and the only one with them
 -- `refuses α n block`: modulo 929 every code word differs from the block in more than two symbols
 pub data Value : Type 0 where
@@ -21,7 +21,7 @@ abbrev pub Holds : Value → Type 0
 Holds (root p a r) = AnswersRoot (modular p) a r
 Holds (pair_root p β a r) = AnswersRoot (pairs (modular p) β) a r
 Holds (encodes α n block) = Written (modular 929) α n block block
-Holds (refuses α n block) = NoCodeWord_due (modular 929) α n block
+Holds (refuses α n block) = NoCodeWordDue (modular 929) α n block
 
 abbrev pub worked_values : List Value
 worked_values =
