@@ -12,10 +12,10 @@ use Rattle.algebra.specs.declared.faults.FieldFault.TheVariants.{UnlistedModulus
 use Rattle.lines.proofs.Cuts.{cut_unique, no_cut}
 use Rattle.lines.proofs.Once.{written_once}
 use Rattle.lines.specs.Lines.{Content}
-use Rattle.prime_field.specs.ListedPrimes.{listed_prime, listed_odd}
-use Rattle.prime_field.specs.ModularLaws.{modular_laws}
+use Rattle.prime_field.specs.Proofs.ListedPrimes.{listed_prime, listed_odd}
+use Rattle.prime_field.specs.Proofs.ModularLaws.{modular_laws}
 use Rattle.prime_field.specs.Making.{Listed, Nonresidue, RefusesMaking}
-use Rattle.quadratic.specs.PairLaws.{pair_laws}
+use Rattle.quadratic.specs.Proofs.PairLaws.{pair_laws}
 use Rattle.quadratic.specs.Pairs.{Nonsquare, pairs}
 use Rattle.quadratic.specs.Signs.{coordinates}
 use Rattle.unit.specs.Sealing.{Allowed, AllowedLength, RefusesSealing}

@@ -7,12 +7,12 @@ use Rattle.prime_field.specs.Primes.{Prime}
 use Rattle.prime_field.specs.Modular.{power, modular}
 use Rattle.prime_field.specs.Exponents.{NoExponent, LeastExponent}
 use Rattle.prime_field.specs.declared.PrimeField.{PrimeField}
-use Rattle.prime_field.specs.Congruences.{mod_eq, mul_congr, mod_mul_left, mod_mul_right, add_cancel}
-use Rattle.prime_field.specs.Euclid.{euclid}
-use Rattle.prime_field.specs.UnitProducts.{negative_square}
-use Rattle.prime_field.specs.Euler.{minus_one_squared}
-use Rattle.prime_field.specs.Residues.{Split, field_split, exponent_pos, double, square_order}
-use Rattle.prime_field.specs.Powers.{power_lt, power_one, power_add, power_suc, power_power, mul_power, square_power}
+use Rattle.prime_field.specs.Proofs.Congruences.{mod_eq, mul_congr, mod_mul_left, mod_mul_right, add_cancel}
+use Rattle.prime_field.specs.Proofs.Euclid.{euclid}
+use Rattle.prime_field.specs.Proofs.UnitProducts.{negative_square}
+use Rattle.prime_field.specs.Proofs.Euler.{minus_one_squared}
+use Rattle.prime_field.specs.Proofs.Residues.{Split, field_split, exponent_pos, double, square_order}
+use Rattle.prime_field.specs.Proofs.Powers.{power_lt, power_one, power_add, power_suc, power_power, mul_power, square_power}
 
 -- 1 and - 1 are the only numbers whose square is 1
 unit_roots : {p : ℕ} → Prime p → (z : ℕ) → z < p → (z * z) % p ≡ 1 → z ≢ 1 → z ≡ p - 1

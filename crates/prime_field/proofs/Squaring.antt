@@ -4,7 +4,7 @@ use native.Mathlib.Nat as N
 use lib.Count.{count_leading_zeros, leading_length}
 use Rattle.std.proofs.lemmas.Bool.{cases_lt}
 use Rattle.prime_field.specs.Modular.{power}
-use Rattle.prime_field.specs.Powers.{power_add, power_suc}
+use Rattle.prime_field.specs.Proofs.Powers.{power_add, power_suc}
 
 -- one more factor 2 of an even t
 pub two_more : (n s t : ℕ) → n ≡ 2 ^ s * t → 0 < t → t % 2 ≡ 0 → n < 2 ^ 32 → (n ≡ 2 ^ (s + 1) * (t / 2)) × (0 < t / 2) × (s + 1 < 32)

@@ -2,14 +2,4 @@ pub mod Primes
 pub mod Modular
 pub mod Making
 pub mod Exponents
-pub mod ModularLaws
-pub mod Congruences
-pub mod Euler
-pub mod DistinctLists
-pub mod UnitProducts
-pub mod Euclid
-pub mod Pairing
-pub mod Powers
-pub mod Residues
-pub mod ListedPrimes
-pub mod TrialDivision
+pub mod Proofs

@@ -1,7 +1,7 @@
 // The field's operations, those of arithmetic modulo its prime.
 ghost use Rattle.prime_field.specs.Modular.{modular};
-ghost use Rattle.prime_field.specs.ModularLaws.{modular_laws};
-ghost use Rattle.prime_field.specs.Residues.{field_split};
+ghost use Rattle.prime_field.specs.Proofs.ModularLaws.{modular_laws};
+ghost use Rattle.prime_field.specs.Proofs.Residues.{field_split};
 
 use crate::PrimeField;
 use crate::arithmetic::{negative, pow, product, sum};

@@ -1,7 +1,7 @@
 // Square roots, by the algorithm of Tonelli and Shanks.
 ghost use Rattle.std.specs.Prelude.{◌<◌, MatchOption};
 ghost use Rattle.prime_field.specs.Exponents.{LeastExponent, NoExponent};
-ghost use Rattle.prime_field.specs.ModularLaws.{modular_rooted};
+ghost use Rattle.prime_field.specs.Proofs.ModularLaws.{modular_rooted};
 
 use crate::PrimeField;
 use crate::arithmetic::{pow, product, square_times};

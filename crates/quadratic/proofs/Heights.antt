@@ -7,8 +7,8 @@ use Rattle.algebra.specs.Roots.{Rooted}
 use Rattle.std.proofs.lemmas.Bool.{and_parts}
 use Rattle.quadratic.specs.Towers.{Height, Tower, ground, step, TowersKeepLaws}
 use Rattle.quadratic.specs.Signs.{coordinates, sgn0, ParitySigns, SignsByCoordinates}
-use Rattle.quadratic.specs.PairLaws.{pair_laws}
-use Rattle.quadratic.specs.PairRoots.{pair_rooted}
+use Rattle.quadratic.specs.Proofs.PairLaws.{pair_laws}
+use Rattle.quadratic.specs.Proofs.PairRoots.{pair_rooted}
 use Rattle.quadratic.proofs.Sgn0.{all_zero, all-zero-++, sgn0_single, sgn0-++}
 
 pub towers_keep_laws : {E : Type 0} (o : Ops E) → Laws o → Rooted o → TowersKeepLaws o

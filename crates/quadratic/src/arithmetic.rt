@@ -2,7 +2,7 @@
 ghost use Rattle.std.specs.Prelude.{◌≡◌};
 ghost use Rattle.algebra.specs.Operations.{In};
 ghost use Rattle.quadratic.specs.Pairs.{Nonsquare, norm, pairs};
-ghost use Rattle.quadratic.specs.PairLaws.{pair_laws};
+ghost use Rattle.quadratic.specs.Proofs.PairLaws.{pair_laws};
 
 use crate::extension::Quad;
 use algebra::{Field, RootedField};

@@ -3,7 +3,7 @@ ghost use Rattle.std.specs.Prelude.{◌≡◌, MatchOption, ◌≢◌};
 ghost use Rattle.algebra.specs.Operations.{In};
 ghost use Rattle.algebra.specs.Roots.{AnswersRoot, RootOf, Square};
 ghost use Rattle.quadratic.specs.Pairs.{HalfSum, Nonsquare, norm, pairs};
-ghost use Rattle.quadratic.specs.PairRoots.{pair_rooted};
+ghost use Rattle.quadratic.specs.Proofs.PairRoots.{pair_rooted};
 
 use crate::arithmetic::norm_of;
 use crate::extension::Quad;

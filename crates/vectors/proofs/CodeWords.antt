@@ -5,8 +5,8 @@ use Rattle.algebra.specs.Laws.{Arithmetic}
 use Rattle.algebra.specs.Operations.{Ops}
 use Rattle.algebra.specs.Powers.{power}
 use Rattle.prime_field.specs.Modular.{modular}
-use Rattle.prime_field.specs.ModularLaws.{modular_laws}
-use Rattle.prime_field.specs.TrialDivision.{trial_prime}
+use Rattle.prime_field.specs.Proofs.ModularLaws.{modular_laws}
+use Rattle.prime_field.specs.Proofs.TrialDivision.{trial_prime}
 use Rattle.code.specs.Blocks.{Elements, Sum, CodeWord₁, data_of, differ}
 use Rattle.code.specs.Generator.{Generates}
 use Rattle.code.specs.Refusals.{NoCodeWordDue}

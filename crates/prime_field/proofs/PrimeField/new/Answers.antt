@@ -1,7 +1,7 @@
 -- A field is made exactly of a listed modulus and a nonresidue, by Euler's criterion.
 use Rattle.std.proofs.Common.{sym, refl, ◌∙◌, arith}
 use Rattle.prime_field.specs.Making.{Listed}
-use Rattle.prime_field.specs.Residues.{listed_split, nonresidue, residue}
+use Rattle.prime_field.specs.Proofs.Residues.{listed_split, nonresidue, residue}
 use Rattle.prime_field.proofs.PrimeField.new.Goals as goal
 
 pub returns-then-square_times-modulus : goal.returns-then-square_times-modulus

@@ -1,7 +1,7 @@
 -- The negative of 0 is 0, and that of another a is p - a.
 use Rattle.std.proofs.Common.{◌≡◌, ◌-◌, ◌<◌, sym, ◌∙◌, mod-eq_of_lt, arith}
 use native.Mathlib.Nat.{mod_self}
-use Rattle.prime_field.specs.Congruences.{mod_eq}
+use Rattle.prime_field.specs.Proofs.Congruences.{mod_eq}
 use Rattle.prime_field.proofs.arithmetic.negative.Goals as goal
 
 pub returns-then-a-eq0 : goal.returns-then-a-eq0

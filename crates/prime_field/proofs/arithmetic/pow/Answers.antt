@@ -1,7 +1,7 @@
 -- Each turn takes one more digit of the exponent.
 use Rattle.std.proofs.Common.{ℕ, sym, ap, ◌∙◌, arith}
 use Rattle.prime_field.specs.Modular.{power}
-use Rattle.prime_field.specs.Powers.{power_zero}
+use Rattle.prime_field.specs.Proofs.Powers.{power_zero}
 use Rattle.prime_field.proofs.Squaring.{no_digits, digit_zero, digit_one}
 use Rattle.prime_field.proofs.arithmetic.pow.Goals as goal
 

@@ -1,6 +1,6 @@
 -- Each turn is one more squaring.
 use Rattle.std.proofs.Common.{sym}
-use Rattle.prime_field.specs.Powers.{power_one}
+use Rattle.prime_field.specs.Proofs.Powers.{power_one}
 use Rattle.prime_field.proofs.Squaring.{square_more}
 use Rattle.prime_field.proofs.arithmetic.square_times.Goals as goal
 

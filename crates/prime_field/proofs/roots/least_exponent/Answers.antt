@@ -2,7 +2,7 @@
 use Rattle.std.proofs.Common.{◌≡◌, ℕ, ◌+◌, ◌-◌, ◌*◌, ◌%◌, ◌^◌, ◌<◌, sym, ap, ◌∙◌, inl, inr, arith}
 use Rattle.std.proofs.lemmas.Bool.{cases_eq}
 use Rattle.prime_field.specs.Modular.{power}
-use Rattle.prime_field.specs.Powers.{power_one}
+use Rattle.prime_field.specs.Proofs.Powers.{power_one}
 use Rattle.prime_field.proofs.Squaring.{square_more}
 use Rattle.prime_field.proofs.roots.least_exponent.Goals as goal
 

@@ -1,7 +1,7 @@
 use Rattle.std.proofs.Common.{◌≡◌, sym, subst}
 use Rattle.algebra.specs.Roots.{RootOf}
 use Rattle.quadratic.specs.Pairs.{pairs}
-use Rattle.quadratic.specs.PairRoots.{root_by_half_sum}
+use Rattle.quadratic.specs.Proofs.PairRoots.{root_by_half_sum}
 use Rattle.quadratic.proofs.roots.root_by_half_sum.Goals as goal
 
 pub returns : goal.returns

@@ -2,9 +2,9 @@ use Rattle.std.proofs.Common.{◌≡◌, sym, ◌∙◌, subst}
 use Rattle.algebra.specs.Roots.{Square}
 use Rattle.algebra.specs.Operations.{minus}
 use Rattle.quadratic.specs.Pairs.{HalfSum}
-use Rattle.quadratic.specs.Squares.{half, half_sum, neg_square}
-use Rattle.quadratic.specs.PairLaws.{low_in, high_in}
-use Rattle.quadratic.specs.PairRoots.{answers_by_half_sum, some_half_sum}
+use Rattle.quadratic.specs.Proofs.Squares.{half, half_sum, neg_square}
+use Rattle.quadratic.specs.Proofs.PairLaws.{low_in, high_in}
+use Rattle.quadratic.specs.Proofs.PairRoots.{answers_by_half_sum, some_half_sum}
 use Rattle.quadratic.proofs.roots.root_by_norm.Goals as goal
 
 pub root_by_half_sum-requires : goal.root_by_half_sum-requires

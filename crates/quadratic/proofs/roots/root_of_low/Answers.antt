@@ -1,7 +1,7 @@
 use Rattle.std.proofs.Common.{◌≡◌, sym, subst}
 use Rattle.algebra.specs.Roots.{RootOf, Square}
 use Rattle.quadratic.specs.Pairs.{pairs}
-use Rattle.quadratic.specs.PairRoots.{root_low, root_high, some_low}
+use Rattle.quadratic.specs.Proofs.PairRoots.{root_low, root_high, some_low}
 use Rattle.quadratic.proofs.roots.root_of_low.Goals as goal
 
 pub returns-in-Some : goal.returns-in-Some

@@ -1,7 +1,7 @@
 -- The first round, each next one, and how the last one ends.
 use Rattle.std.proofs.Common.{arith}
 use Rattle.std.proofs.lemmas.Bool.{ltb-true}
-use Rattle.prime_field.specs.Residues.{field_split}
+use Rattle.prime_field.specs.Proofs.Residues.{field_split}
 use Rattle.prime_field.proofs.Rounds.{round_first, round_none, round_next, round_last, even_root, negative_root}
 use Rattle.prime_field.proofs.roots.PrimeFieldRootedField.root.Goals as goal
 

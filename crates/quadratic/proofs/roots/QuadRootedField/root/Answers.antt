@@ -1,7 +1,7 @@
 use Rattle.std.proofs.Common.{◌≡◌, sym, refl, ◌∙◌, subst}
 use Rattle.algebra.specs.Roots.{AnswersRoot}
 use Rattle.quadratic.specs.Pairs.{pairs}
-use Rattle.quadratic.specs.PairRoots.{no_root_by_norm}
+use Rattle.quadratic.specs.Proofs.PairRoots.{no_root_by_norm}
 use Rattle.quadratic.proofs.roots.QuadRootedField.root.Goals as goal
 
 pub returns-then-equal : goal.returns-then-equal

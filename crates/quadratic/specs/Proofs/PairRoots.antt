@@ -6,8 +6,8 @@ use Rattle.algebra.specs.Laws.{Arithmetic, Laws}
 use Rattle.algebra.specs.Roots.{Square, RootOf, Rooted, AnswersRoot}
 use Rattle.algebra.proofs.Products.{equal_or_not}
 use Rattle.quadratic.specs.Pairs.{Nonsquare, norm, pairs, HalfSum}
-use Rattle.quadratic.specs.Squares.{half, half_sum_in, half_sums, half_sum, root_of_square, norm_in, low_squares, half_sum_squares, half_nonzero}
-use Rattle.quadratic.specs.PairLaws.{pair_in, low_in, high_in, low_square, high_square, by_half_sum, by_half_sum_in, half_sum_square, square_by_norm, norm_of_square, sign_high, sign_low, pair_laws}
+use Rattle.quadratic.specs.Proofs.Squares.{half, half_sum_in, half_sums, half_sum, root_of_square, norm_in, low_squares, half_sum_squares, half_nonzero}
+use Rattle.quadratic.specs.Proofs.PairLaws.{pair_in, low_in, high_in, low_square, high_square, by_half_sum, by_half_sum_in, half_sum_square, square_by_norm, norm_of_square, sign_high, sign_low, pair_laws}
 
 module _ {E : Type 0} {o : Ops E} (laws : Laws o) (β : E) (up : Nonsquare o β) where
   open o use {zero as 𝟘, add as ◌⊹◌, mul as ◌·◌, inv}

@@ -7,9 +7,9 @@ use Rattle.prime_field.specs.Primes.{Prime}
 use Rattle.prime_field.specs.Modular.{power, modular}
 use Rattle.prime_field.specs.Making.{Listed, Nonresidue}
 use Rattle.prime_field.specs.declared.PrimeField.{PrimeField}
-use Rattle.prime_field.specs.Euler.{euler}
-use Rattle.prime_field.specs.ListedPrimes.{listed_prime, listed_odd}
-use Rattle.prime_field.specs.Powers.{power_power}
+use Rattle.prime_field.specs.Proofs.Euler.{euler}
+use Rattle.prime_field.specs.Proofs.ListedPrimes.{listed_prime, listed_odd}
+use Rattle.prime_field.specs.Proofs.Powers.{power_power}
 
 -- p is an odd prime, and p - 1 is 2 ^ s times an odd t
 pub record Split (p s t : ℕ) : Type 0 where

@@ -4,8 +4,8 @@ use Rattle.std.proofs.Common.{sym, ◌∙◌, ap, arith, pow-add}
 use Rattle.std.proofs.Math.Nat as N
 use Rattle.prime_field.specs.Primes.{Prime}
 use Rattle.prime_field.specs.Modular.{power}
-use Rattle.prime_field.specs.Congruences.{mod_eq, mul_congr, pow_congr, mod_mul_left}
-use Rattle.prime_field.specs.Euler.{fermat}
+use Rattle.prime_field.specs.Proofs.Congruences.{mod_eq, mul_congr, pow_congr, mod_mul_left}
+use Rattle.prime_field.specs.Proofs.Euler.{fermat}
 
 pow_mul : (a m n : ℕ) → a ^ (m * n) ≡ (a ^ m) ^ n
 pow_mul a m zero = ap (λ (v : ℕ). a ^ v) (N.mul-zero m) ∙ N.pow-zero a ∙ sym (N.pow-zero (a ^ m))

@@ -3,7 +3,7 @@ use Rattle.std.specs.Prelude.{◌≡◌, ℕ, ◌%◌, refl}
 use Rattle.std.proofs.Common.{sym, subst, inl, inr}
 use Rattle.prime_field.specs.Primes.{Prime}
 use Rattle.prime_field.specs.Making.{Listed}
-use Rattle.prime_field.specs.TrialDivision.{trial_prime}
+use Rattle.prime_field.specs.Proofs.TrialDivision.{trial_prime}
 
 -- what holds of each listed modulus
 each_listed : (P : ℕ → Type 0) → P 3 → P 7 → P 23 → P 29 → P 929 → P 2013265921 → P 4294967291 → (p : ℕ) → Listed p → P p

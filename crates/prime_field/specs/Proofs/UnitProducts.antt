@@ -8,10 +8,10 @@ use Rattle.std.proofs.Math.Nat.{mod-lt, zero-mod, mul-mod_left, add-mul-mod_self
 use native.Mathlib.Omega.{arith}
 use Rattle.std.proofs.lemmas.Bool.{cases_lt}
 use Rattle.prime_field.specs.Primes.{Prime}
-use Rattle.prime_field.specs.Congruences.{mod_eq, mul_congr, add_congr, mod_mul_left, mod_mul_right}
-use Rattle.prime_field.specs.Euclid.{inverse, euclid}
-use Rattle.prime_field.specs.DistinctLists.{Member, Distinct, product, remove, length_remove, product_remove, from_remove, to_remove, distinct_remove, removed, up_to, length_up_to, to_up_to, from_up_to, distinct_up_to}
-use Rattle.prime_field.specs.Pairing.{Paired, PairProduct, pair_product, partner_unique}
+use Rattle.prime_field.specs.Proofs.Congruences.{mod_eq, mul_congr, add_congr, mod_mul_left, mod_mul_right}
+use Rattle.prime_field.specs.Proofs.Euclid.{inverse, euclid}
+use Rattle.prime_field.specs.Proofs.DistinctLists.{Member, Distinct, product, remove, length_remove, product_remove, from_remove, to_remove, distinct_remove, removed, up_to, length_up_to, to_up_to, from_up_to, distinct_up_to}
+use Rattle.prime_field.specs.Proofs.Pairing.{Paired, PairProduct, pair_product, partner_unique}
 
 -- the numbers from 1 to p - 1
 abbrev pub units : ℕ → List ℕ

@@ -5,7 +5,7 @@ use Rattle.std.proofs.Math.Nat as N
 use Rattle.std.proofs.Math.Nat.{zero-mod, mul-mod_left, div-add-mod, add-mod-mod}
 use Rattle.std.proofs.lemmas.Bool.{cases_eq}
 use Rattle.prime_field.specs.Primes.{Prime}
-use Rattle.prime_field.specs.Congruences.{mod_eq, mod_mul_left, mul_congr}
+use Rattle.prime_field.specs.Proofs.Congruences.{mod_eq, mod_mul_left, mul_congr}
 
 -- a number above 1 and below a prime does not divide it
 remains : {p : ℕ} → Prime p → (a : ℕ) → 1 < a → a < p → p % a ≢ 0

@@ -4,9 +4,9 @@ use Rattle.std.proofs.Common.{sym, subst, ◌∙◌, ap, inl, inr, mod-eq_of_lt,
 use Rattle.std.proofs.Math.Nat as N
 use Rattle.std.proofs.Math.Nat.{mod-mod}
 use Rattle.prime_field.specs.Primes.{Prime}
-use Rattle.prime_field.specs.Congruences.{mod_eq, mul_congr}
-use Rattle.prime_field.specs.Euclid.{mul_cancel}
-use Rattle.prime_field.specs.DistinctLists.{Member, Distinct, product, remove, length_remove, product_remove, from_remove, to_remove, distinct_remove, removed}
+use Rattle.prime_field.specs.Proofs.Congruences.{mod_eq, mul_congr}
+use Rattle.prime_field.specs.Proofs.Euclid.{mul_cancel}
+use Rattle.prime_field.specs.Proofs.DistinctLists.{Member, Distinct, product, remove, length_remove, product_remove, from_remove, to_remove, distinct_remove, removed}
 
 pub partner_unique : {p : ℕ} → Prime p → (c x y z : ℕ) → (0 < x) × (x < p) → y < p → z < p → (x * y) % p ≡ c → (x * z) % p ≡ c → y ≡ z
 partner_unique {p} P c x y z r ly lz e f =

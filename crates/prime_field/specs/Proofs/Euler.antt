@@ -7,9 +7,9 @@ use Rattle.std.proofs.lemmas.Bool.{cases_eq, lt-ltb, ltb-true}
 use Rattle.algebra.specs.Roots.{Square}
 use Rattle.prime_field.specs.Primes.{Prime}
 use Rattle.prime_field.specs.Modular.{power, modular}
-use Rattle.prime_field.specs.Congruences.{mod_eq, mul_congr, add_congr, add_cancel}
-use Rattle.prime_field.specs.DistinctLists.{product}
-use Rattle.prime_field.specs.UnitProducts.{units, product_rootless, product_rooted}
+use Rattle.prime_field.specs.Proofs.Congruences.{mod_eq, mul_congr, add_congr, add_cancel}
+use Rattle.prime_field.specs.Proofs.DistinctLists.{product}
+use Rattle.prime_field.specs.Proofs.UnitProducts.{units, product_rootless, product_rooted}
 
 one_pow : (n : ℕ) → 1 ^ n ≡ 1
 one_pow zero = N.pow-zero 1

@@ -10,9 +10,9 @@ use Rattle.algebra.specs.Laws.{Arithmetic, SquareLaw, SignLaw, Laws}
 use Rattle.algebra.proofs.Products.{square_has_root}
 use Rattle.prime_field.specs.Primes.{Prime}
 use Rattle.prime_field.specs.Modular.{power, modular}
-use Rattle.prime_field.specs.Congruences.{mod_eq, mod_mul_left, mod_mul_right}
-use Rattle.prime_field.specs.Euler.{euler, minus_one_squared}
-use Rattle.prime_field.specs.Powers.{power_lt, power_inverse, zero_power, mul_power}
+use Rattle.prime_field.specs.Proofs.Congruences.{mod_eq, mod_mul_left, mod_mul_right}
+use Rattle.prime_field.specs.Proofs.Euler.{euler, minus_one_squared}
+use Rattle.prime_field.specs.Proofs.Powers.{power_lt, power_inverse, zero_power, mul_power}
 
 module _ (p : ℕ) (P : Prime p) (odd : p % 2 ≡ 1) where
   two : 2 < p
