@@ -6,3 +6,4 @@ pub mod Commissions
 pub mod Stages
 pub mod Sessions
 pub mod Consoles
+pub mod Widths

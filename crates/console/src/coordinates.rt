@@ -1,7 +1,6 @@
 // Elements as lists of numbers, low half first.
-ghost use Rattle.std.specs.Prelude.{◌≡◌, ℕ, ◌*◌, List, [], ◌∷◌, ◌++◌, length, MatchOption, OnOk, ◌≢◌};
-ghost use Rattle.std.proofs.Common.{◌∙◌, rules, arith};
-ghost use Rattle.std.proofs.lemmas.List.{length-append};
+ghost use Rattle.std.specs.Prelude.{◌≡◌, ℕ, ◌*◌, List, [], ◌∷◌, ◌++◌, length, MatchOption, OnOk, ◌≢◌, refl};
+ghost use Rattle.console.specs.Widths.{halves_long};
 
 use std::alloc::AllocError;
 
@@ -29,7 +28,7 @@ impl Coordinates for u32 {
 
     ghost width = { 1 };
 
-    ghost long = { Prim.search rules };
+    ghost long = { λ n. refl };
 
     fn from_numbers(numbers: &[u32]) -> Option<u32> {
         if numbers.len() == 1 {
@@ -50,10 +49,7 @@ impl<E: Coordinates> Coordinates for (E, E) {
 
     ghost width = { 2 * E.Coordinates.width };
 
-    ghost long = { λ p.
-        let low = E.Coordinates.long p.0 in
-        let high = E.Coordinates.long p.1 in
-        length-append (E.Coordinates.flat p.0) (E.Coordinates.flat p.1) ∙ omega arith };
+    ghost long = { λ p. halves_long E.Coordinates.width (E.Coordinates.flat p.0) (E.Coordinates.flat p.1) (E.Coordinates.long p.0) (E.Coordinates.long p.1) };
 
     fn from_numbers(numbers: &[u32]) -> Option<(E, E)> {
         if numbers.len() % 2 == 1 {
