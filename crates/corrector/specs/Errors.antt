@@ -69,7 +69,7 @@ magnitude o s x y = o.mul (minus o s.s2 (o.mul y s.s1)) (o.inv (o.mul x (minus o
 pub record OneError {E : Type 0} (o : Ops E) (α : E) (n : ℕ) (s : Syndromes E) (k : ℕ) (e : E) : Type 0 where
   pub below : k < n
   pub inside : In o e
-  pub nonzero : e ≡ o.zero → ⊥
+  pub nonzero : e ≢ o.zero
   pub one : s.s1 ≡ o.mul e (power o (power o α k) 1)
   pub two : s.s2 ≡ o.mul e (power o (power o α k) 2)
   pub three : s.s3 ≡ o.mul e (power o (power o α k) 3)
@@ -79,11 +79,11 @@ pub record OneError {E : Type 0} (o : Ops E) (α : E) (n : ℕ) (s : Syndromes E
 pub record TwoErrors {E : Type 0} (o : Ops E) (α : E) (n : ℕ) (s : Syndromes E) (i : ℕ) (d : E) (k : ℕ) (e : E) : Type 0 where
   pub i_below : i < n
   pub k_below : k < n
-  pub apart : power o α i ≡ power o α k → ⊥
+  pub apart : power o α i ≢ power o α k
   pub d_in : In o d
   pub e_in : In o e
-  pub d_nonzero : d ≡ o.zero → ⊥
-  pub e_nonzero : e ≡ o.zero → ⊥
+  pub d_nonzero : d ≢ o.zero
+  pub e_nonzero : e ≢ o.zero
   pub one : s.s1 ≡ two_terms o d (power o α i) e (power o α k) 1
   pub two : s.s2 ≡ two_terms o d (power o α i) e (power o α k) 2
   pub three : s.s3 ≡ two_terms o d (power o α i) e (power o α k) 3

@@ -44,7 +44,7 @@ pub data Transition {E : Type 0} (o : Ops E) (α : E) (n : ℕ) (p q : Progress)
       → Refused p q e (fault.BlockCount e.number) → Transition o α n p q e
   opened : e.kind ≡ Open → Fits Open p.state → 1 ≤ e.number → e.number ≤ 4096
       → e.answer ≡ Ok 0 → Stands q Loading e.number 0 0 → e.left ≡ e.offered → Transition o α n p q e
-  out_of_turn : e.kind ≡ Block → p.state ≡ Loading → (e.number ≢ p.taken)
+  out_of_turn : e.kind ≡ Block → p.state ≡ Loading → e.number ≢ p.taken
       → Refused p q e (fault.OutOfTurn e.number) → Transition o α n p q e
   not_corrected : {f : CodeFault} → e.kind ≡ Block → p.state ≡ Loading → e.number ≡ p.taken → Uncorrected o α n e.offered e.left f
       → Refused p q e (fault.Block e.number f) → Transition o α n p q e
