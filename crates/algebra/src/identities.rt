@@ -5,7 +5,6 @@ use crate::Field;
 
 // The identities that quadratic steps and the corrector rest on hold in every field.
 pub fn ring_identities<F: Field>(field: &F)
-    requires { F.Field.sound field.now }
     ensures squares { DifferenceOfSquares (F.Field.ops field.now) }
     ensures pairs { PairsAssociate (F.Field.ops field.now) }
     ensures determinants { DeterminantsOfTwoTerms (F.Field.ops field.now) }

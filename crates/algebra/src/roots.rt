@@ -9,7 +9,6 @@ use crate::{Field, RootedField};
 
 // The root of a value that need not be an element.
 pub fn find_root<F: RootedField>(field: &F, a: F::Elem) -> Result<F::Elem, FieldFault>
-    requires { F.Field.sound field.now }
     ensures { MatchResult result (λ x. In (F.Field.ops field.now) a × RootOf (F.Field.ops field.now) a x) (RefusesRoot (F.Field.ops field.now) a) }
 {
     if !field.contains(a) {
@@ -20,6 +19,5 @@ pub fn find_root<F: RootedField>(field: &F, a: F::Elem) -> Result<F::Elem, Field
 
 // An element has one root at most.
 pub fn roots_are_unique<F: Field>(field: &F)
-    requires { F.Field.sound field.now }
     ensures { RootsAreUnique (F.Field.ops field.now) }
 {}

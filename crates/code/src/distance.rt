@@ -5,6 +5,5 @@ use algebra::Field;
 
 // In every field, different code words differ in at least five places.
 pub fn distance_five<F: Field>(field: &F)
-    requires { F.Field.sound field.now }
     ensures { DistanceFive (F.Field.ops field.now) }
 {}

@@ -6,7 +6,6 @@ use algebra::Field;
 
 // Whether alpha, which need not be an element, generates codes of blocks of n symbols.
 pub fn generates<F: Field>(field: &F, alpha: F::Elem, n: usize) -> bool
-    requires { F.Field.sound field.now }
     ensures { Decides result (Generates (F.Field.ops field.now) alpha n) }
 {
     if !field.contains(alpha) {

@@ -8,7 +8,6 @@ use algebra::Field;
 
 // The sum Sⱼ of the block where x is αʲ, by Horner's rule in sending order.
 pub fn syndrome<F: Field>(field: &F, x: F::Elem, block: &[F::Elem]) -> F::Elem
-    requires sound { F.Field.sound field.now }
     requires point { In (F.Field.ops field.now) x }
     requires elements { Elements (F.Field.ops field.now) block.now }
     ensures value { (α : F.Elem) (j : ℕ) → In (F.Field.ops field.now) α → x ≡ power (F.Field.ops field.now) α j → result ≡ Sum (F.Field.ops field.now) α j block.now }

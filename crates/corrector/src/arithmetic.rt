@@ -6,7 +6,7 @@ ghost use Rattle.corrector.specs.Errors.{cross};
 use algebra::Field;
 
 pub fn subtract<F: Field>(field: &F, a: F::Elem, b: F::Elem) -> F::Elem
-    requires { F.Field.sound field.now × In (F.Field.ops field.now) a × In (F.Field.ops field.now) b }
+    requires { In (F.Field.ops field.now) a × In (F.Field.ops field.now) b }
     ensures value { result ≡ minus (F.Field.ops field.now) a b }
     ensures inside { In (F.Field.ops field.now) result }
 {
@@ -14,7 +14,7 @@ pub fn subtract<F: Field>(field: &F, a: F::Elem, b: F::Elem) -> F::Elem
 }
 
 pub fn divide<F: Field>(field: &F, a: F::Elem, b: F::Elem) -> F::Elem
-    requires { F.Field.sound field.now × In (F.Field.ops field.now) a × In (F.Field.ops field.now) b }
+    requires { In (F.Field.ops field.now) a × In (F.Field.ops field.now) b }
     ensures value { result ≡ (F.Field.ops field.now).mul a ((F.Field.ops field.now).inv b) }
     ensures inside { In (F.Field.ops field.now) result }
 {
@@ -29,7 +29,7 @@ pub fn cross_difference<F: Field>(
     c: F::Elem,
     d: F::Elem,
 ) -> F::Elem
-    requires { F.Field.sound field.now × In (F.Field.ops field.now) a × In (F.Field.ops field.now) b × In (F.Field.ops field.now) c × In (F.Field.ops field.now) d }
+    requires { In (F.Field.ops field.now) a × In (F.Field.ops field.now) b × In (F.Field.ops field.now) c × In (F.Field.ops field.now) d }
     ensures value { result ≡ cross (F.Field.ops field.now) a b c d }
     ensures inside { In (F.Field.ops field.now) result }
 {

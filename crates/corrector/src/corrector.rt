@@ -35,7 +35,6 @@ pub fn correct<F: RootedField>(
     n: usize,
     block: &mut [F::Elem],
 ) -> Result<usize, CodeFault>
-    requires sound { F.Field.sound field.now }
     requires generator { Generates (F.Field.ops field.now) alpha n }
     ensures { MatchResult result (Corrected (F.Field.ops field.now) alpha n block.old block.new) (Uncorrected (F.Field.ops field.now) alpha n block.old block.new) }
 {

@@ -24,7 +24,6 @@ fn solve_quadratic<F: RootedField>(
     u: F::Elem,
     v: F::Elem,
 ) -> Result<Locators<F::Elem>, CodeFault>
-    requires sound { F.Field.sound field.now }
     requires sum { In (F.Field.ops field.now) u }
     requires product { In (F.Field.ops field.now) v }
     ensures { MatchResult result (λ p. Pair (F.Field.ops field.now) u v p.x p.y) (NoPair (F.Field.ops field.now) u v) }
@@ -44,7 +43,7 @@ fn solve_quadratic<F: RootedField>(
 
 // What is wrong at the place of x, beside a wrong symbol at that of y.
 fn error_magnitude<F: Field>(field: &F, s: Syndromes<F::Elem>, x: F::Elem, y: F::Elem) -> F::Elem
-    requires { F.Field.sound field.now × Inside (F.Field.ops field.now) s × In (F.Field.ops field.now) x × In (F.Field.ops field.now) y }
+    requires { Inside (F.Field.ops field.now) s × In (F.Field.ops field.now) x × In (F.Field.ops field.now) y }
     ensures value { result ≡ magnitude (F.Field.ops field.now) s x y }
     ensures inside { In (F.Field.ops field.now) result }
 {
@@ -63,7 +62,6 @@ pub fn correct_two<F: RootedField>(
     s: Syndromes<F::Elem>,
     d: F::Elem,
 ) -> Result<usize, CodeFault>
-    requires sound { F.Field.sound field.now }
     requires generator { Generates (F.Field.ops field.now) alpha (length block.old) }
     requires elements { Elements (F.Field.ops field.now) block.old }
     requires value { SumsOf (F.Field.ops field.now) alpha block.old s }

@@ -10,7 +10,6 @@ use algebra::Field;
 
 // The first place below n whose power of alpha is x.
 pub fn find_place<F: Field>(field: &F, alpha: F::Elem, n: usize, x: F::Elem) -> Option<usize>
-    requires sound { F.Field.sound field.now }
     requires generator { In (F.Field.ops field.now) alpha }
     requires value { In (F.Field.ops field.now) x }
     ensures { MatchOption result ((k : ℕ) → k < n → power (F.Field.ops field.now) alpha k ≢ x) (FirstPlace (F.Field.ops field.now) alpha n x) }
@@ -31,7 +30,6 @@ pub fn find_place<F: Field>(field: &F, alpha: F::Elem, n: usize, x: F::Elem) -> 
 
 // Takes e from the symbol at the place k.
 pub fn amend<F: Field>(field: &F, block: &mut [F::Elem], k: usize, e: F::Elem)
-    requires sound { F.Field.sound field.now }
     requires elements { Elements (F.Field.ops field.now) block.old }
     requires error { In (F.Field.ops field.now) e }
     requires below { k < length block.old }

@@ -33,7 +33,6 @@ pub fn round_trip<F: RootedField>(
     first: Damage<F::Elem>,
     second: Damage<F::Elem>,
 ) -> Result<usize, CodeFault>
-    requires sound { F.Field.sound field.now }
     requires generator { Generates (F.Field.ops field.now) alpha n }
     requires long { 5 ≤ n }
     requires first { Admissible (F.Field.ops field.now) n first }

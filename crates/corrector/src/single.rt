@@ -12,7 +12,6 @@ use code::CodeFault;
 
 // The ratio of each sum to the one before, if it is the same for all three.
 fn common_ratio<F: Field>(field: &F, s: Syndromes<F::Elem>) -> Option<F::Elem>
-    requires sound { F.Field.sound field.now }
     requires inside { Inside (F.Field.ops field.now) s }
     requires nonzero { s.s1 ≢ (F.Field.ops field.now).zero }
     ensures { MatchOption result ((x : F.Elem) → Ratio (F.Field.ops field.now) s x → ⊥) (Ratio (F.Field.ops field.now) s) }
@@ -36,7 +35,6 @@ pub fn correct_one<F: Field>(
     block: &mut [F::Elem],
     s: Syndromes<F::Elem>,
 ) -> Result<usize, CodeFault>
-    requires sound { F.Field.sound field.now }
     requires generator { Generates (F.Field.ops field.now) alpha (length block.old) }
     requires elements { Elements (F.Field.ops field.now) block.old }
     requires value { SumsOf (F.Field.ops field.now) alpha block.old s }

@@ -16,7 +16,6 @@ pub struct Syndromes<E> {
 }
 
 pub fn syndromes_of<F: Field>(field: &F, alpha: F::Elem, block: &[F::Elem]) -> Syndromes<F::Elem>
-    requires sound { F.Field.sound field.now }
     requires generator { In (F.Field.ops field.now) alpha }
     requires elements { Elements (F.Field.ops field.now) block.now }
     ensures value { SumsOf (F.Field.ops field.now) alpha block.now result }
@@ -34,7 +33,7 @@ pub fn syndromes_of<F: Field>(field: &F, alpha: F::Elem, block: &[F::Elem]) -> S
 }
 
 pub fn all_zero<F: Field>(field: &F, s: Syndromes<F::Elem>) -> bool
-    requires { F.Field.sound field.now × Inside (F.Field.ops field.now) s }
+    requires { Inside (F.Field.ops field.now) s }
     ensures { Decides result (AllZero (F.Field.ops field.now) s) }
 {
     let zero = field.zero();

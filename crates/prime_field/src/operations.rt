@@ -12,9 +12,7 @@ impl Field for PrimeField {
 
     ghost ops = { λ f. modular f.modulus };
 
-    ghost sound = { λ _. Unit {0} };
-
-    ghost laws = { λ f s. modular_laws f.modulus (field_split f).prime f.odd };
+    ghost laws = { λ f. modular_laws f.modulus (field_split f).prime f.odd };
 
     fn contains(&self, a: u32) -> bool {
         a < self.modulus

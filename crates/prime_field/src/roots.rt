@@ -28,7 +28,7 @@ fn least_exponent(p: u32, b: u32, m: u32) -> Option<u32>
 }
 
 impl RootedField for PrimeField {
-    ghost rooted = { λ f s. modular_rooted f.modulus (record { above_one = f.above; undivided = f.undivided }) f.odd };
+    ghost rooted = { λ f. modular_rooted f.modulus (record { above_one = f.above; undivided = f.undivided }) f.odd };
 
     fn root(&self, a: u32) -> Option<u32> {
         if a == 0 {

@@ -1,7 +1,7 @@
 // The arithmetic of a quadratic extension, by halves in the field below.
 ghost use Rattle.std.specs.Prelude.{◌≡◌};
 ghost use Rattle.algebra.specs.Operations.{In};
-ghost use Rattle.quadratic.specs.Pairs.{Nonsquare, norm, pairs};
+ghost use Rattle.quadratic.specs.Pairs.{norm, pairs};
 ghost use Rattle.quadratic.specs.Proofs.PairLaws.{pair_laws};
 
 use crate::extension::Quad;
@@ -13,9 +13,7 @@ impl<F: RootedField> Field for Quad<F> {
 
     ghost ops = { λ q. pairs (F.Field.ops q.base) q.beta };
 
-    ghost sound = { λ q. F.Field.sound q.base × Nonsquare (F.Field.ops q.base) q.beta };
-
-    ghost laws = { λ f s. pair_laws (F.Field.laws f.base s.0) f.beta s.1 };
+    ghost laws = { λ q. pair_laws (F.Field.laws q.base) q.beta q.nonsquare };
 
     fn contains(&self, a: (F::Elem, F::Elem)) -> bool {
         self.base.contains(a.0) && self.base.contains(a.1)
@@ -51,7 +49,7 @@ impl<F: RootedField> Field for Quad<F> {
     // The conjugate a0 - a1·y over the norm: one inverse below.
     fn inv(&self, a: (F::Elem, F::Elem)) -> (F::Elem, F::Elem) {
         let f = &self.base;
-        let over = f.inv(norm_of(f, self.beta, a));
+        let over = f.inv(self.norm(a));
         (f.mul(a.0, over), f.mul(f.neg(a.1), over))
     }
 
@@ -64,13 +62,14 @@ impl<F: RootedField> Field for Quad<F> {
     }
 }
 
-// a0² - beta·a1²
-pub(crate) fn norm_of<F: Field>(f: &F, beta: F::Elem, a: (F::Elem, F::Elem)) -> F::Elem
-    requires sound { F.Field.sound f.now }
-    requires step { In (F.Field.ops f.now) beta }
-    requires element { In (pairs (F.Field.ops f.now) beta) a }
-    ensures value { result ≡ norm (F.Field.ops f.now) beta a }
-    ensures inside { In (F.Field.ops f.now) result }
-{
-    f.add(f.mul(a.0, a.0), f.neg(f.mul(beta, f.mul(a.1, a.1))))
+impl<F: RootedField> Quad<F> {
+    // a0² - beta·a1²
+    pub(crate) fn norm(&self, a: (F::Elem, F::Elem)) -> F::Elem
+        requires { In (pairs (F.Field.ops self.now.base) self.now.beta) a }
+        ensures value { result ≡ norm (F.Field.ops self.now.base) self.now.beta a }
+        ensures inside { In (F.Field.ops self.now.base) result }
+    {
+        let f = &self.base;
+        f.add(f.mul(a.0, a.0), f.neg(f.mul(self.beta, f.mul(a.1, a.1))))
+    }
 }

@@ -10,6 +10,7 @@ use algebra::{Field, FieldFault, RootedField};
 pub struct Quad<F: RootedField> {
     pub(crate) base: F,
     pub(crate) beta: F::Elem,
+    ghost nonsquare: { Nonsquare (F.Field.ops base) beta },
 }
 
 // An extension that was refused: why, and the field as it was.
@@ -21,7 +22,6 @@ pub struct Unextended<F> {
 
 impl<F: RootedField> Quad<F> {
     pub fn new(base: F, beta: F::Elem) -> Result<Quad<F>, Unextended<F>>
-        requires { F.Field.sound base }
         ensures { MatchResult result (λ q. Nonsquare (F.Field.ops base) beta × (q.base ≡ base) × (q.beta ≡ beta)) (λ e. (e.base ≡ base) × RefusesExtension (F.Field.ops base) beta e.fault) }
     {
         if !base.contains(beta) || base.root(beta).is_some() {

@@ -6,7 +6,6 @@ use algebra::{Field, RootedField};
 
 // Every tower above a rooted field keeps the field's laws, and decides which of its elements have a root.
 pub fn tower_keeps_laws<F: RootedField>(field: &F)
-    requires { F.Field.sound field.now }
     ensures { TowersKeepLaws (F.Field.ops field.now) }
 {}
 

@@ -18,7 +18,6 @@ pub struct Cubic<E> {
 
 // What x⁴ is at each of α to α⁴: (x - α)(x - α²)(x - α³)(x - α⁴), less x⁴, with the sign turned.
 pub fn generator<F: Field>(field: &F, alpha: F::Elem) -> Cubic<F::Elem>
-    requires sound { F.Field.sound field.now }
     requires member { In (F.Field.ops field.now) alpha }
     ensures roots { (i : ℕ) → i < 4 → Root (F.Field.ops field.now) result (power (F.Field.ops field.now) alpha (1 + i)) }
     ensures inside { Inside (F.Field.ops field.now) result }
@@ -45,7 +44,6 @@ pub fn step<F: Field>(
     rest: Cubic<F::Elem>,
     symbol: F::Elem,
 ) -> Cubic<F::Elem>
-    requires sound { F.Field.sound field.now }
     requires divisor { Inside (F.Field.ops field.now) divisor }
     requires rest { Inside (F.Field.ops field.now) rest }
     requires member { In (F.Field.ops field.now) symbol }
@@ -67,7 +65,6 @@ pub fn remainder<F: Field>(
     divisor: Cubic<F::Elem>,
     symbols: &[F::Elem],
 ) -> Cubic<F::Elem>
-    requires sound { F.Field.sound field.now }
     requires divisor { Inside (F.Field.ops field.now) divisor }
     requires elements { Elements (F.Field.ops field.now) symbols.now }
     ensures value { Remains (F.Field.ops field.now) divisor symbols.now result }

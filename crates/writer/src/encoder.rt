@@ -28,7 +28,6 @@ fn check_data<F: Field>(field: &F, n: usize, block: &[F::Elem]) -> Result<(), Co
 
 // Sets the last four symbols so that the block is a code word.
 fn write_checks<F: Field>(field: &F, alpha: F::Elem, block: &mut [F::Elem])
-    requires sound { F.Field.sound field.now }
     requires generator { Generates (F.Field.ops field.now) alpha (length block.old) }
     requires long { 5 ≤ length block.old }
     requires elements { Elements (F.Field.ops field.now) (data_of (length block.old) block.old) }
@@ -50,7 +49,6 @@ pub fn encode<F: Field>(
     n: usize,
     block: &mut [F::Elem],
 ) -> Result<(), CodeFault>
-    requires sound { F.Field.sound field.now }
     requires generator { Generates (F.Field.ops field.now) alpha n }
     requires long { 5 ≤ n }
     ensures { MatchResult result (λ _. Written (F.Field.ops field.now) alpha n block.old block.new) (Unwritten (F.Field.ops field.now) n block.old block.new) }

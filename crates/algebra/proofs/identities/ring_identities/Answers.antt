@@ -3,7 +3,7 @@ use Rattle.algebra.proofs.identities.ring_identities.Goals as goal
 
 pub returns : goal.returns
 returns g c =
-    let l = (g.met.F.Field.laws c.args.field.now c.requires).arithmetic in
+    let l = (g.met.F.Field.laws c.args.field.now).arithmetic in
     record {
       squares = difference_of_squares l;
       pairs = pairs_associate l;

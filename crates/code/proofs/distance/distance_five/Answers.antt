@@ -3,4 +3,4 @@ use Rattle.code.proofs.MinimumDistance.{distance_five}
 use Rattle.code.proofs.distance.distance_five.Goals as goal
 
 pub returns : goal.returns
-returns g c = distance_five (g.met.F.Field.laws c.args.field.now c.requires).arithmetic
+returns g c = distance_five (g.met.F.Field.laws c.args.field.now).arithmetic

@@ -8,7 +8,7 @@ use Rattle.code.proofs.syndromes.syndrome.Goals as goal
 
 pub loop-symbol-init : goal.loop-symbol-init
 loop-symbol-init g c =
-    let l = (g.met.F.Field.laws c.args.field.now c.requires.sound).arithmetic in
+    let l = (g.met.F.Field.laws c.args.field.now).arithmetic in
     (c.zero-sum.ensures.inside, rw c.zero-sum.ensures.value (horner_none l c.args.x c.args.block.now c.requires.point c.requires.elements))
 
 pub add-sum-requires : goal.add-sum-requires
@@ -20,7 +20,7 @@ add-sum-requires g c =
 pub loop-symbol-preserved : goal.loop-symbol-preserved
 loop-symbol-preserved g c =
     let o = g.F.Field.ops c.args.field.now in
-    let l = (g.met.F.Field.laws c.args.field.now c.requires.sound).arithmetic in
+    let l = (g.met.F.Field.laws c.args.field.now).arithmetic in
     let r : c.add-sum.result ≡ o.add (o.mul c.loop-symbol.sum c.args.x) c.symbol-item.result =
     c.add-sum.ensures.value ∙ ap (λ m. o.add m c.symbol-item.result) c.mul.ensures.value in (
       c.add-sum.ensures.inside,
@@ -31,7 +31,7 @@ loop-symbol-preserved g c =
 pub returns : goal.returns
 returns g c =
     let o = g.F.Field.ops c.args.field.now in
-    let l = (g.met.F.Field.laws c.args.field.now c.requires.sound).arithmetic in
+    let l = (g.met.F.Field.laws c.args.field.now).arithmetic in
     let b = c.args.block.now in
     record {
       value = λ α j hα at_x.

@@ -11,7 +11,7 @@ use Rattle.corrector.proofs.corrector.correct.Goals as goal
 pub returns-then-all_zero : goal.returns-then-all_zero
 returns-then-all_zero g c =
     let o = g.F.Field.ops c.args.field.now in
-    let l = (g.met.F.Field.laws c.args.field.now c.requires.sound).arithmetic in
+    let l = (g.met.F.Field.laws c.args.field.now).arithmetic in
     let α = c.args.alpha in
     let b = c.args.block.now in
     let long = c.in_ok-check_block.ensures.0 in
@@ -24,7 +24,7 @@ returns-then-all_zero g c =
 pub returns-then-equal : goal.returns-then-equal
 returns-then-equal g c =
     let o = g.F.Field.ops c.args.field.now in
-    let l = (g.met.F.Field.laws c.args.field.now c.requires.sound).arithmetic in
+    let l = (g.met.F.Field.laws c.args.field.now).arithmetic in
     let α = c.args.alpha in
     let n = c.args.n in
     let b = c.args.block.now in
@@ -42,7 +42,7 @@ returns-then-equal g c =
 pub returns-else-equal : goal.returns-else-equal
 returns-else-equal g c =
     let o = g.F.Field.ops c.args.field.now in
-    let l = (g.met.F.Field.laws c.args.field.now c.requires.sound).arithmetic in
+    let l = (g.met.F.Field.laws c.args.field.now).arithmetic in
     let α = c.args.alpha in
     let n = c.args.n in
     let b = c.args.block.now in

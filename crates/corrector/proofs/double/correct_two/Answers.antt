@@ -12,7 +12,7 @@ use Rattle.corrector.proofs.double.correct_two.Goals as goal
 pub returns-in_err-x : goal.returns-in_err-x
 returns-in_err-x g c =
     let o = g.F.Field.ops c.args.field.now in
-    let l = (g.met.F.Field.laws c.args.field.now c.requires.sound).arithmetic in
+    let l = (g.met.F.Field.laws c.args.field.now).arithmetic in
     let u : locator_sum o c.args.s ≡ c.mul-u.result = cc in
     let v : locator_product o c.args.s ≡ c.mul-v.result = cc in
     let p = err_from_is_err_and c.from_residual.result c.from_residual.ensures.1 in
@@ -26,7 +26,7 @@ returns-in_err-x g c =
 pub returns-then-equal : goal.returns-then-equal
 returns-then-equal g c =
     let o = g.F.Field.ops c.args.field.now in
-    let l = (g.met.F.Field.laws c.args.field.now c.requires.sound).arithmetic in
+    let l = (g.met.F.Field.laws c.args.field.now).arithmetic in
     let u : c.mul-u.result ≡ locator_sum o c.args.s = cc in
     let v : c.mul-v.result ≡ locator_product o c.args.s = cc in
     record {
@@ -39,7 +39,7 @@ returns-then-equal g c =
 pub returns-in_default : goal.returns-in_default
 returns-in_default g c =
     let o = g.F.Field.ops c.args.field.now in
-    let l = (g.met.F.Field.laws c.args.field.now c.requires.sound).arithmetic in
+    let l = (g.met.F.Field.laws c.args.field.now).arithmetic in
     let u : c.mul-u.result ≡ locator_sum o c.args.s = cc in
     let v : c.mul-v.result ≡ locator_product o c.args.s = cc in
     record {
@@ -52,7 +52,7 @@ returns-in_default g c =
 pub returns-in_default-find_place : goal.returns-in_default-find_place
 returns-in_default-find_place g c =
     let o = g.F.Field.ops c.args.field.now in
-    let l = (g.met.F.Field.laws c.args.field.now c.requires.sound).arithmetic in
+    let l = (g.met.F.Field.laws c.args.field.now).arithmetic in
     let u : c.mul-u.result ≡ locator_sum o c.args.s = cc in
     let v : c.mul-v.result ≡ locator_product o c.args.s = cc in
     record {
@@ -64,10 +64,9 @@ returns-in_default-find_place g c =
 
 pub amend-requires-2 : goal.amend-requires-2
 amend-requires-2 g c =
-    let l = (g.met.F.Field.laws c.args.field.now c.requires.sound).arithmetic in
+    let l = (g.met.F.Field.laws c.args.field.now).arithmetic in
     let b = c.args.block.now in
     record {
-      sound = c.requires.sound;
       elements = rw c.amend.ensures (amended_in l b c.in-Some.i c.error_magnitude.result c.in-Some.ensures.below c.requires.elements c.error_magnitude.ensures.inside);
       error = c.error_magnitude-2.ensures.inside;
       below = rw (c.amend.ensures, length_amended l b c.in-Some.i c.error_magnitude.result) c.in-Some-find_place.ensures.below;
@@ -76,7 +75,7 @@ amend-requires-2 g c =
 pub returns : goal.returns
 returns g c =
     let o = g.F.Field.ops c.args.field.now in
-    let l = (g.met.F.Field.laws c.args.field.now c.requires.sound).arithmetic in
+    let l = (g.met.F.Field.laws c.args.field.now).arithmetic in
     let b = c.args.block.now in
     let u : c.mul-u.result ≡ locator_sum o c.args.s = cc in
     let v : c.mul-v.result ≡ locator_product o c.args.s = cc in

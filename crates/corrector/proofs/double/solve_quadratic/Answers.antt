@@ -9,7 +9,7 @@ use Rattle.corrector.proofs.double.solve_quadratic.Goals as goal
 pub returns-in_default : goal.returns-in_default
 returns-in_default g c =
     let o = g.F.Field.ops c.args.field.now in
-    let l = (g.met.F.Field.laws c.args.field.now c.requires.sound).arithmetic in
+    let l = (g.met.F.Field.laws c.args.field.now).arithmetic in
     let e : discriminant o c.args.u c.args.v ≡ c.subtract-discriminant.result = cc in
     record {
       none = λ x y p. c.in_default.ensures (subst (Square o) e (pair_square l c.args.u c.args.v x y p));
@@ -19,7 +19,7 @@ returns-in_default g c =
 pub returns : goal.returns
 returns g c =
     let o = g.F.Field.ops c.args.field.now in
-    let l = (g.met.F.Field.laws c.args.field.now c.requires.sound).arithmetic in
+    let l = (g.met.F.Field.laws c.args.field.now).arithmetic in
     let u = c.args.u in
     let v = c.args.v in
     let d = c.in-Some.d in

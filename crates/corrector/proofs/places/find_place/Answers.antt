@@ -6,7 +6,7 @@ use Rattle.corrector.proofs.places.find_place.Goals as goal
 pub loop-k-preserved : goal.loop-k-preserved
 loop-k-preserved g c =
     let o = g.F.Field.ops c.args.field.now in
-    let l = (g.met.F.Field.laws c.args.field.now c.requires.sound).arithmetic in (
+    let l = (g.met.F.Field.laws c.args.field.now).arithmetic in (
       omega arith,
       c.mul-locator.ensures.inside,
       rw add-one (c.mul-locator.ensures.value ∙ ap (o.mul c.args.alpha) c.loop-k.invariant.2),

@@ -9,7 +9,7 @@ use Rattle.corrector.proofs.restoration.round_trip.Goals as goal
 pub returns : goal.returns
 returns g c =
     let o = g.F.Field.ops c.args.field.now in
-    let l = (g.met.F.Field.laws c.args.field.now c.requires.sound).arithmetic in
+    let l = (g.met.F.Field.laws c.args.field.now).arithmetic in
     let α = c.args.alpha in
     let n = c.args.n in
     let gen = c.requires.generator in

@@ -6,7 +6,7 @@ use Rattle.corrector.proofs.single.common_ratio.Goals as goal
 pub returns-then-not-equal-2 : goal.returns-then-not-equal-2
 returns-then-not-equal-2 g c = λ x r.
     let o = g.F.Field.ops c.args.field.now in
-    let l = (g.met.F.Field.laws c.args.field.now c.requires.sound).arithmetic in
+    let l = (g.met.F.Field.laws c.args.field.now).arithmetic in
     let s = c.args.s in
     let q : x ≡ c.divide-x.result =
     quotient_unique l s.s2 s.s1 x c.requires.inside.two c.requires.inside.one r.inside c.requires.nonzero r.two ∙ sym c.divide-x.ensures.value in
@@ -17,7 +17,7 @@ returns-then-not-equal-2 g c = λ x r.
 pub returns : goal.returns
 returns g c =
     let o = g.F.Field.ops c.args.field.now in
-    let l = (g.met.F.Field.laws c.args.field.now c.requires.sound).arithmetic in
+    let l = (g.met.F.Field.laws c.args.field.now).arithmetic in
     let s = c.args.s in
     record {
       inside = c.divide-x.ensures.inside;

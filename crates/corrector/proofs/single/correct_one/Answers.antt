@@ -7,7 +7,7 @@ use Rattle.corrector.proofs.single.correct_one.Goals as goal
 
 pub returns-then-equal : goal.returns-then-equal
 returns-then-equal g c =
-    let l = (g.met.F.Field.laws c.args.field.now c.requires.sound).arithmetic in
+    let l = (g.met.F.Field.laws c.args.field.now).arithmetic in
     record {
       kept = refl;
       none = no_first l c.args.alpha c.args.block.now c.requires.generator c.requires.elements c.args.s c.requires.value c.requires.inside
@@ -17,7 +17,7 @@ returns-then-equal g c =
 
 pub returns-in_default : goal.returns-in_default
 returns-in_default g c =
-    let l = (g.met.F.Field.laws c.args.field.now c.requires.sound).arithmetic in
+    let l = (g.met.F.Field.laws c.args.field.now).arithmetic in
     record {
       kept = refl;
       none = no_ratio l c.args.alpha c.args.block.now c.requires.generator c.requires.elements c.args.s c.requires.value c.requires.inside
@@ -27,7 +27,7 @@ returns-in_default g c =
 
 pub returns-in_default-find_place : goal.returns-in_default-find_place
 returns-in_default-find_place g c =
-    let l = (g.met.F.Field.laws c.args.field.now c.requires.sound).arithmetic in
+    let l = (g.met.F.Field.laws c.args.field.now).arithmetic in
     record {
       kept = refl;
       none = no_place l c.args.alpha c.args.block.now c.requires.generator c.requires.elements c.args.s c.requires.value c.requires.inside
@@ -38,7 +38,7 @@ returns-in_default-find_place g c =
 pub returns : goal.returns
 returns g c =
     let o = g.F.Field.ops c.args.field.now in
-    let l = (g.met.F.Field.laws c.args.field.now c.requires.sound).arithmetic in
+    let l = (g.met.F.Field.laws c.args.field.now).arithmetic in
     let b = c.args.block.now in
     let nonzero : c.args.s.s1 ≡ o.zero → ⊥ =
     λ z. let w : false ≡ true = c.if-equal.ensures.tells.1 (z ∙ sym c.zero.ensures.value) in search rules in

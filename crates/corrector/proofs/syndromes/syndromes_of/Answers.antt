@@ -7,7 +7,7 @@ use Rattle.corrector.proofs.syndromes.syndromes_of.Goals as goal
 pub returns : goal.returns
 returns g c =
     let o = g.F.Field.ops c.args.field.now in
-    let l = (g.met.F.Field.laws c.args.field.now c.requires.sound).arithmetic in
+    let l = (g.met.F.Field.laws c.args.field.now).arithmetic in
     let α = c.args.alpha in
     let hα = c.requires.generator in
     let p1 : α ≡ power o α 1 = power_one l α hα in

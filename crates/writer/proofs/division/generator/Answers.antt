@@ -11,7 +11,7 @@ use Rattle.writer.proofs.division.generator.Goals as goal
 pub returns : goal.returns
 returns g c =
     let o = g.F.Field.ops c.args.field.now in
-    let l = (g.met.F.Field.laws c.args.field.now c.requires.sound).arithmetic in
+    let l = (g.met.F.Field.laws c.args.field.now).arithmetic in
     let α = c.args.alpha in
     let h1 = c.requires.member in
     let s2 = c.mul-second.result in

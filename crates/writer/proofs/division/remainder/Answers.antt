@@ -12,7 +12,7 @@ use Rattle.writer.proofs.division.remainder.Goals as goal
 pub loop-symbol-init : goal.loop-symbol-init
 loop-symbol-init g c =
     let o = g.F.Field.ops c.args.field.now in
-    let l = (g.met.F.Field.laws c.args.field.now c.requires.sound).arithmetic in
+    let l = (g.met.F.Field.laws c.args.field.now).arithmetic in
     let h = c.zero-zero.ensures.inside in (
       record { three = h; two = h; one = h; zero = h },
       λ x hx root. ap (λ z. Dividend o x (record { c3 = z; c2 = z; c1 = z; c0 = z }) c.args.symbols.now) c.zero-zero.ensures.value
@@ -23,11 +23,11 @@ pub step-rest-requires : goal.step-rest-requires
 step-rest-requires g c =
     let o = g.F.Field.ops c.args.field.now in
     let i : In o c.symbol-item.result = rw (← c.symbol-item.is) at (All-get_or (In o) c.args.symbols.now c.loop-symbol.symbol-index c.symbol-item.result c.loop-symbol-test.true c.requires.elements) in
-    record { sound = c.requires.sound; divisor = c.requires.divisor; rest = c.loop-symbol.invariant.0; member = i }
+    record { divisor = c.requires.divisor; rest = c.loop-symbol.invariant.0; member = i }
 
 pub loop-symbol-preserved : goal.loop-symbol-preserved
 loop-symbol-preserved g c =
-    let l = (g.met.F.Field.laws c.args.field.now c.requires.sound).arithmetic in (
+    let l = (g.met.F.Field.laws c.args.field.now).arithmetic in (
       c.step-rest.ensures.inside,
       λ x hx root. dividend_more l c.args.divisor c.loop-symbol.rest c.step-rest.result c.symbol-item.result x _ c.args.symbols.now c.loop-symbol.symbol-index
           c.loop-symbol-test.true c.symbol-item.is c.loop-symbol.invariant.0 hx c.requires.elements c.step-rest.ensures.value root (c.loop-symbol.invariant.1 x hx root),
@@ -36,7 +36,7 @@ loop-symbol-preserved g c =
 pub returns : goal.returns
 returns g c =
     let o = g.F.Field.ops c.args.field.now in
-    let l = (g.met.F.Field.laws c.args.field.now c.requires.sound).arithmetic in
+    let l = (g.met.F.Field.laws c.args.field.now).arithmetic in
     let ds = c.args.symbols.now in
     record {
       value = λ α j hα root.

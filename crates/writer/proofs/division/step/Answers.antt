@@ -8,7 +8,7 @@ use Rattle.writer.proofs.division.step.Goals as goal
 pub returns : goal.returns
 returns g c =
     let o = g.F.Field.ops c.args.field.now in
-    let l = (g.met.F.Field.laws c.args.field.now c.requires.sound).arithmetic in
+    let l = (g.met.F.Field.laws c.args.field.now).arithmetic in
     let p = c.args.divisor in
     let r = c.args.rest in
     let s = c.args.symbol in

@@ -6,7 +6,7 @@ use Rattle.writer.proofs.encoder.write_checks.Goals as goal
 pub returns : goal.returns
 returns g c =
     let o = g.F.Field.ops c.args.field.now in
-    let l = (g.met.F.Field.laws c.args.field.now c.requires.sound).arithmetic in
+    let l = (g.met.F.Field.laws c.args.field.now).arithmetic in
     let b = c.args.block.now in
     let q = c.remainder-rest.result in
     let e3 : c.neg.result ≡ o.neg q.c3 = c.neg.ensures.value in

@@ -9,7 +9,7 @@ pub loop-b-init : goal.loop-b-init
 loop-b-init c =
     let f = c.args.self.now in
     round_first f c.args.a _ c.pow-w.result c.product-x.result c.product-b.result (omega arith)
-    (ltb-true c.args.a f.modulus c.requires.1) c.pow-w.ensures.value c.product-x.ensures.value c.product-b.ensures.value
+    (ltb-true c.args.a f.modulus c.requires) c.pow-w.ensures.value c.product-x.ensures.value c.product-b.ensures.value
     (omega (arith, f.rest))
 
 pub returns-in_err-i : goal.returns-in_err-i
@@ -33,7 +33,7 @@ returns-then-sign-eq0 c =
     let a = c.args.a in
     let x = c.loop-b.x in
     even_root p a x c.loop-b.invariant.x_in
-    (round_last p a x c.loop-b.b c.loop-b.c c.loop-b.m (ltb-true a p c.requires.1) c.loop-b.invariant c.loop-b-test.false)
+    (round_last p a x c.loop-b.b c.loop-b.c c.loop-b.m (ltb-true a p c.requires) c.loop-b.invariant c.loop-b-test.false)
     (omega arith)
 
 pub returns-else-sign-eq0 : goal.returns-else-sign-eq0
@@ -43,5 +43,5 @@ returns-else-sign-eq0 c =
     let a = c.args.a in
     let x = c.loop-b.x in
     negative_root p a x _ (omega arith)
-    (round_last p a x c.loop-b.b c.loop-b.c c.loop-b.m (ltb-true a p c.requires.1) c.loop-b.invariant c.loop-b-test.false)
+    (round_last p a x c.loop-b.b c.loop-b.c c.loop-b.m (ltb-true a p c.requires) c.loop-b.invariant c.loop-b-test.false)
     (omega (arith, c.loop-b.invariant.x_in)) (omega (arith, f.odd, c.loop-b.invariant.x_in))

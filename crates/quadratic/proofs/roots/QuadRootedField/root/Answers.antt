@@ -12,8 +12,8 @@ returns-then-equal g c =
     let flat : a.1 ≡ o.zero = c.if-equal.ensures.tells.0 refl ∙ c.zero.ensures.value in
     subst (λ y. AnswersRoot (pairs o q.beta) (a.0, y) c.root_of_low.result) (sym flat) c.root_of_low.ensures
 
-pub returns-in_default : goal.returns-in_default
-returns-in_default g c =
+pub returns-in_err-d : goal.returns-in_err-d
+returns-in_err-d g c =
     let q = c.args.self.now in
-    let (sound, step) = c.requires.0 in
-    no_root_by_norm (g.met.F.Field.laws q.base sound) q.beta step c.args.a c.norm_of.result c.norm_of.ensures.value c.in_default.ensures
+    rw c.from_residual.ensures
+    (no_root_by_norm (g.met.F.Field.laws q.base) q.beta q.nonsquare c.args.a c.norm.result c.norm.ensures.value c.in_err-d.ensures)
