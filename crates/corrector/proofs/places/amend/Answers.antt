@@ -10,4 +10,4 @@ subtract-requires g c =
     let b = c.args.block.now in
     let i : length b - 1 - c.args.k < length b = omega arith in
     let h : In o c.index-block-i.result = rw (← c.index-block-i.is) at (All-get_or (In o) b (length b - 1 - c.args.k) c.index-block-i.result i c.requires.elements) in
-    (c.requires.sound, h, c.requires.error)
+    (h, c.requires.error)
