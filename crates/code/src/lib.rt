@@ -1,6 +1,7 @@
 // Block codes over a field: which elements may generate one, the sums of a block, and its refusals.
 #![tactic(auto)]
 
+mod codes;
 mod distance;
 mod faults;
 mod generator;
@@ -8,6 +9,7 @@ mod numbers;
 mod symbols;
 mod syndromes;
 
+pub use codes::Code;
 pub use distance::distance_five;
 pub use faults::CodeFault;
 pub use generator::generates;

@@ -55,24 +55,24 @@ module _ {E : Type 0} {o : Ops E} (l : Arithmetic o) where
       ∙ ap (λ y. y ⊹ Value o (power o α j) (checks o q)) (sym (re α j hα root))
       ∙ by_ring l ((power o α j, hx) ∷ (q.c3, hq.three) ∷ (q.c2, hq.two) ∷ (q.c1, hq.one) ∷ (q.c0, hq.zero) ∷ []) (search reads depth 40 fits 5000) refl
 
-  pub written : (α : E) (block : List E) (p q : Cubic E) → Generates o α (length block) → 5 ≤ length block
-      → Elements o (data_of (length block) block) → Inside o q
-      → ((i : ℕ) → i < 4 → Root o p (power o α (1 + i))) → Remains o p (data_of (length block) block) q
-      → Written o α (length block) block (data_of (length block) block ++ checks o q)
-  written α block p q g h hs hq roots re =
-      let ds = data_of (length block) block in
-      let len : length ds ≡ length block - 4 = length-take-le (length block - 4) block (omega arith) in
-      let kept : data_of (length block) (ds ++ checks o q) ≡ ds = ap (λ m. take m (ds ++ checks o q)) (sym len) ∙ take-append_seam ds (checks o q) in
-      let word : CodeWord₁ o α (length block) (ds ++ checks o q) = record {
-        long = length-append ds (checks o q) ∙ (let m : length ds + 4 ≡ length block = omega (arith, len) in m);
+  pub written : (α : E) (n : ℕ) (block : List E) (p q : Cubic E) → Generates o α n → 5 ≤ n → length block ≡ n
+      → Elements o (data_of n block) → Inside o q
+      → ((i : ℕ) → i < 4 → Root o p (power o α (1 + i))) → Remains o p (data_of n block) q
+      → Written o α n block (data_of n block ++ checks o q)
+  written α n block p q g h long hs hq roots re =
+      let ds = data_of n block in
+      let len : length ds ≡ n - 4 = length-take-le (n - 4) block (omega (arith, long)) in
+      let kept : data_of n (ds ++ checks o q) ≡ ds = ap (λ m. take m (ds ++ checks o q)) (sym len) ∙ take-append_seam ds (checks o q) in
+      let word : CodeWord₁ o α n (ds ++ checks o q) = record {
+        long = length-append ds (checks o q) ∙ (let m : length ds + 4 ≡ n = omega (arith, len) in m);
         inside = All-append (In o) _ _ hs (checks_in q hq);
         zeros = λ i b. checked_zero p q ds α (1 + i) hq hs g.inside (roots i b) re;
       } in
       record {
-        long = refl;
+        long = long;
         kept = kept;
         word = word;
         only = λ other w same.
-            let few = differ_take l (length block - 4) other (ds ++ checks o q) w.inside (w.long ∙ sym word.long) (same ∙ sym kept) in
-            equal_words l 1 α (length block) other (ds ++ checks o q) g w word (omega (arith, few, w.long));
+            let few = differ_take l (n - 4) other (ds ++ checks o q) w.inside (w.long ∙ sym word.long) (same ∙ sym kept) in
+            equal_words l 1 α n other (ds ++ checks o q) g w word (omega (arith, few, w.long));
       }

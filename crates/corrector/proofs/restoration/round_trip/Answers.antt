@@ -8,11 +8,12 @@ use Rattle.corrector.proofs.restoration.round_trip.Goals as goal
 
 pub returns : goal.returns
 returns g c =
-    let o = g.F.Field.ops c.args.field.now in
-    let l = (g.met.F.Field.laws c.args.field.now).arithmetic in
-    let α = c.args.alpha in
-    let n = c.args.n in
-    let gen = c.requires.generator in
+    let k = c.args.code.now in
+    let o = g.F.Field.ops k.field.now in
+    let l = (g.met.F.Field.laws k.field.now).arithmetic in
+    let α = k.alpha in
+    let n = k.length in
+    let gen = k.generator in
     let b = c.args.block.now in
     let w = c.in_ok-encode.ensures in
     let written = c.encode.new.block in
@@ -21,5 +22,5 @@ returns g c =
     c.inflict-2.ensures ∙ ap (λ x. damaged x c.args.second) c.inflict.ensures in
     MatchResult-weaker c.correct.result
     (subst (λ x. MatchResult c.correct.result (Corrected o α n x after) (Uncorrected o α n x after)) arrived c.correct.ensures)
-    (λ count k. restored l α n gen b written w c.args.first c.args.second c.requires.first c.requires.second after count k)
-    (λ fault k. absurd (not_refused l α n gen b written w c.args.first c.args.second c.requires.first c.requires.second fault k.due))
+    (λ count r. restored l α n gen b written w c.args.first c.args.second c.requires.first c.requires.second after count r)
+    (λ fault r. absurd (not_refused l α n gen b written w c.args.first c.args.second c.requires.first c.requires.second fault r.due))
