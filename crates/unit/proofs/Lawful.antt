@@ -3,14 +3,14 @@ use Rattle.std.proofs.Common.{◌≡◌, ℕ, ◌≤◌, true, List, ◌∷◌, 
 use Rattle.algebra.specs.Laws.{Laws}
 use Rattle.algebra.specs.Operations.{Ops}
 use Rattle.algebra.specs.Roots.{Rooted}
+use Rattle.algebra.specs.declared.Field.{Ghosts}
 use Rattle.quadratic.proofs.Heights.{towers_keep_laws}
 use Rattle.code.specs.Blocks.{Elements}
 use Rattle.corrector.specs.Correction.{Corrected}
 use Rattle.corrector.proofs.Once.{refused_far}
 use Rattle.unit.specs.Days.{Event, Accepted, IsSteering, InTurn, Grantable, Throughout}
 use Rattle.unit.specs.Law.{◌iff◌, Near, FieldLaw, BlockLaw, OrderLaw, Ordered}
-use Rattle.unit.specs.Orders.{Transition, wrong_state, block_count, opened, out_of_turn, not_corrected, taken, granted, released, Lived, sealed, ordered, Fit, Same}
-use Rattle.unit.specs.Sealing.{Allowed}
+use Rattle.unit.specs.Orders.{Transition, wrong_state, block_count, opened, out_of_turn, not_corrected, taken, granted, released, Lived, sealed, ordered, Same}
 use Rattle.unit.specs.States.{Fits}
 use Rattle.unit.specs.declared.progress.Progress.{Progress}
 use Rattle.unit.specs.declared.states.Kind.{Kind}
@@ -99,21 +99,18 @@ pub field_law : {E : Type 0} (o : Ops E) → Laws o → Rooted o → FieldLaw o
 field_law o laws rooted = record { laws = laws; rooted = rooted; towers = towers_keep_laws o laws rooted }
 
 -- all that is said of an order follows from what it did
-pub by_transition : {F E : Type 0} (sound : F → Type 0) (ops : F → Ops E) → ((f : F) → sound f → Laws (ops f)) → ((f : F) → sound f → Rooted (ops f))
-    → (u v : Sealed F E) (e : Event E) → Fit sound ops u → Same u v → Transition (ops u.field) u.alpha u.length u.progress v.progress e
-    → Ordered sound ops u v e
-by_transition sound ops laws rooted u v e fit s t = record {
-  same = s;
-  fit = record {
-    sound_field = along s.field_is s.alpha_is s.length_is (λ f a n. sound f) fit.sound_field;
-    allowed = along s.field_is s.alpha_is s.length_is (λ f a n. Allowed (ops f) a n) fit.allowed;
-  };
-  transition = t;
-  lived = λ h l. along s.field_is s.alpha_is s.length_is (λ f a n. Lived (ops f) a n (e ∷ h) v.progress) (ordered l t);
-  field = field_law (ops u.field) (laws u.field fit.sound_field) (rooted u.field fit.sound_field);
-  blocks = λ h l. block_law (ops u.field) u.alpha u.length h e u.progress v.progress (summary l) t;
-  orders = λ h l. order_law (ops u.field) u.alpha u.length h e u.progress v.progress (summary l) t;
-}
+pub by_transition : {F E : Type 0} {m : Ghosts F E} → ((f : F) → Laws (m.ops f)) → ((f : F) → Rooted (m.ops f))
+    → (u v : Sealed F E m) (e : Event E) → Same u v → Transition (m.ops u.field) u.alpha u.length u.progress v.progress e → Ordered u v e
+by_transition {m = m} laws rooted u v e s t =
+    let o = m.ops u.field in
+    record {
+      same = s;
+      transition = t;
+      lived = λ h l. along s.field_is s.alpha_is s.length_is (λ f a n. Lived (m.ops f) a n (e ∷ h) v.progress) (ordered l t);
+      field = field_law o (laws u.field) (rooted u.field);
+      blocks = λ h l. block_law o u.alpha u.length h e u.progress v.progress (summary l) t;
+      orders = λ h l. order_law o u.alpha u.length h e u.progress v.progress (summary l) t;
+    }
 
 -- the law holds at every order of a day that a unit has lived
 pub blocks_throughout : {E : Type 0} {o : Ops E} {α : E} {n : ℕ} {h : List (Event E)} {p : Progress} → Lived o α n h p → Throughout (BlockLaw o α n) h

@@ -2,7 +2,7 @@
 use Rattle.std.proofs.Common.{◌≡◌, ℕ, List, [], ◌∷◌, ◌++◌, reverse, sym, refl, ap, ◌∙◌, subst, ap₂}
 use mathlib.Core.List.{reverse-cons}
 use Rattle.std.proofs.lemmas.List.{reverse-reverse}
-use Rattle.algebra.specs.Operations.{Ops}
+use Rattle.algebra.specs.declared.Field.{Ghosts}
 use Rattle.unit.specs.Days.{Event, event, Throughout}
 use Rattle.unit.specs.Law.{BlockLaw, OrderLaw, Ordered}
 use Rattle.unit.specs.Tasks.{Came, Events, none, next, Day, Carried, Worked}
@@ -16,15 +16,14 @@ events_more none c = next c none
 events_more (next a r) c = next a (events_more r c)
 
 -- one more task
-pub carried_more : {F E : Type 0} {sound : F → Type 0} {ops : F → Ops E} {u v w : Sealed F E} {ts xs : List (Task E)} {t x : Task E} {e : Event E}
-    → Carried sound ops u v ts xs → Ordered sound ops v w e → Came t x e → Carried sound ops u w (ts ++ t ∷ []) (xs ++ x ∷ [])
+pub carried_more : {F E : Type 0} {m : Ghosts F E} {u v w : Sealed F E m} {ts xs : List (Task E)} {t x : Task E} {e : Event E}
+    → Carried u v ts xs → Ordered v w e → Came t x e → Carried u w (ts ++ t ∷ []) (xs ++ x ∷ [])
 carried_more {ts = ts} {xs = xs} {t = t} {x = x} {e = e} c o came = record {
   same = record {
     field_is = o.same.field_is ∙ c.same.field_is;
     alpha_is = o.same.alpha_is ∙ c.same.alpha_is;
     length_is = o.same.length_is ∙ c.same.length_is;
   };
-  fit = o.fit;
   day = e ∷ c.day;
   came = subst (Events (ts ++ t ∷ []) (xs ++ x ∷ [])) (sym (reverse-cons e c.day)) (events_more c.came came);
   lived = λ h l. o.lived (c.day ++ h) (c.lived h l);
@@ -48,12 +47,12 @@ pub day_once : {E : Type 0} {ts us : List (Task E)} (g h : List (Event E)) → D
 day_once g h a b = sym (reverse-reverse g) ∙ ap reverse (events_once a b) ∙ reverse-reverse h
 
 -- the law holds at every order of a day that was worked
-module _ {F E : Type 0} {sound : F → Type 0} {ops : F → Ops E} {f : F} {α : E} {n : ℕ} {before after : List (Task E)} {u : Sealed F E}
-    (w : Worked sound ops f α n before after u) where
-  pub worked_blocks : (h : List (Event E)) → Day before after h → Throughout (BlockLaw (ops f) α n) h
+module _ {F E : Type 0} {m : Ghosts F E} {f : F} {α : E} {n : ℕ} {before after : List (Task E)} {u : Sealed F E m}
+    (w : Worked f α n before after u) where
+  pub worked_blocks : (h : List (Event E)) → Day before after h → Throughout (BlockLaw (m.ops f) α n) h
   worked_blocks h d =
-      subst (Throughout (BlockLaw (ops f) α n)) (day_once w.day h w.came d)
-      (along (sym w.field_is) (sym w.alpha_is) (sym w.length_is) (λ f a m. Throughout (BlockLaw (ops f) a m) w.day) (blocks_throughout w.lived))
+      subst (Throughout (BlockLaw (m.ops f) α n)) (day_once w.day h w.came d)
+      (along (sym w.field_is) (sym w.alpha_is) (sym w.length_is) (λ f a k. Throughout (BlockLaw (m.ops f) a k) w.day) (blocks_throughout w.lived))
 
   pub worked_orders : (h : List (Event E)) → Day before after h → Throughout OrderLaw h
   worked_orders h d = subst (Throughout OrderLaw) (day_once w.day h w.came d) (orders_throughout w.lived)

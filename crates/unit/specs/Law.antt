@@ -3,11 +3,12 @@ use Rattle.std.specs.Prelude.{◌≡◌, ℕ, ◌≤◌, List, ◌∷◌, length
 use Rattle.algebra.specs.Laws.{Laws}
 use Rattle.algebra.specs.Operations.{Ops}
 use Rattle.algebra.specs.Roots.{Rooted}
+use Rattle.algebra.specs.declared.Field.{Ghosts}
 use Rattle.quadratic.specs.Towers.{TowersKeepLaws}
 use Rattle.code.specs.Blocks.{Elements, CodeWord₁, differ}
 use Rattle.corrector.specs.Correction.{Corrected}
 use Rattle.unit.specs.Days.{Event, Accepted, IsSteering, InTurn, Grantable}
-use Rattle.unit.specs.Orders.{Transition, Lived, Fit, Same}
+use Rattle.unit.specs.Orders.{Transition, Lived, Same}
 use Rattle.unit.specs.declared.states.Kind.TheVariants.{Open, Block, Engage, Release}
 use Rattle.unit.specs.declared.units.Sealed.{Sealed}
 
@@ -46,17 +47,16 @@ pub record OrderLaw {E : Type 0} (h : List (Event E)) (e : Event E) : Type 0 whe
   pub release : e.kind ≡ Release → Accepted Release e iff IsSteering h
 
 -- h is a day that the unit u has lived
-abbrev pub HasLived : {F E : Type 0} → (F → Ops E) → List (Event E) → Sealed F E → Type 0
-HasLived ops h u = Lived (ops u.field) u.alpha u.length h u.progress
+abbrev pub HasLived : {F E : Type 0} {meaning : Ghosts F E} → List (Event E) → Sealed F E meaning → Type 0
+HasLived {meaning = m} h u = Lived (m.ops u.field) u.alpha u.length h u.progress
 
 -- The unit u was given the order e and is v then.
 -- `transition`: what the order did, exactly. `lived`: every day of the unit is one order longer.
 -- `field`, `blocks` and `orders`: the law holds at this order, whatever day the unit has lived.
-pub record Ordered {F E : Type 0} (sound : F → Type 0) (ops : F → Ops E) (u v : Sealed F E) (e : Event E) : Type 0 where
+pub record Ordered {F E : Type 0} {meaning : Ghosts F E} (u v : Sealed F E meaning) (e : Event E) : Type 0 where
   pub same : Same u v
-  pub fit : Fit sound ops v
-  pub transition : Transition (ops u.field) u.alpha u.length u.progress v.progress e
-  pub lived : (h : List (Event E)) → HasLived ops h u → HasLived ops (e ∷ h) v
-  pub field : FieldLaw (ops u.field)
-  pub blocks : (h : List (Event E)) → HasLived ops h u → BlockLaw (ops u.field) u.alpha u.length h e
-  pub orders : (h : List (Event E)) → HasLived ops h u → OrderLaw h e
+  pub transition : Transition (meaning.ops u.field) u.alpha u.length u.progress v.progress e
+  pub lived : (h : List (Event E)) → HasLived h u → HasLived (e ∷ h) v
+  pub field : FieldLaw (meaning.ops u.field)
+  pub blocks : (h : List (Event E)) → HasLived h u → BlockLaw (meaning.ops u.field) u.alpha u.length h e
+  pub orders : (h : List (Event E)) → HasLived h u → OrderLaw h e

@@ -1,11 +1,11 @@
 -- What each order does to a unit, exactly: the answer, the block and the progress afterwards.
 use Rattle.std.specs.Prelude.{◌≡◌, ℕ, ◌+◌, ◌<◌, ◌≤◌, List, [], ◌∷◌, Ok, Err, Result, ◌≢◌}
 use Rattle.algebra.specs.Operations.{Ops}
+use Rattle.algebra.specs.declared.Field.{Ghosts}
 use Rattle.code.specs.Generator.{Generates}
 use Rattle.code.specs.declared.faults.CodeFault.{CodeFault}
 use Rattle.corrector.specs.Correction.{Corrected, Uncorrected}
 use Rattle.unit.specs.Days.{Event, event}
-use Rattle.unit.specs.Sealing.{Allowed}
 use Rattle.unit.specs.States.{Fits}
 use Rattle.unit.specs.declared.faults.UnitFault.{UnitFault}
 use Rattle.unit.specs.declared.faults.UnitFault.TheVariants as fault
@@ -73,13 +73,8 @@ pub record UncorrectedAt (k : ℕ) (P : CodeFault → Type 0) (f : UnitFault) : 
   pub fault_is : f ≡ fault.Block k inner
   pub due : P inner
 
--- A unit as the calls leave it: on a sound field, with a generator and a length that sealing allows.
-pub record Fit {F E : Type 0} (sound : F → Type 0) (ops : F → Ops E) (u : Sealed F E) : Type 0 where
-  pub sound_field : sound u.field
-  pub allowed : Allowed (ops u.field) u.alpha u.length
-
 -- field, generator and length stay
-pub record Same {F E : Type 0} (u v : Sealed F E) : Type 0 where
+pub record Same {F E : Type 0} {meaning : Ghosts F E} (u v : Sealed F E meaning) : Type 0 where
   pub field_is : v.field ≡ u.field
   pub alpha_is : v.alpha ≡ u.alpha
   pub length_is : v.length ≡ u.length

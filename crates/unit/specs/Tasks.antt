@@ -1,9 +1,9 @@
 -- Tasks, and the day that they make.
 use Rattle.std.specs.Prelude.{◌≡◌, ℕ, List, [], ◌∷◌, ◌++◌, reverse, Some, vec_items}
-use Rattle.algebra.specs.Operations.{Ops}
+use Rattle.algebra.specs.declared.Field.{Ghosts}
 use Rattle.unit.specs.Days.{Event}
 use Rattle.unit.specs.Law.{HasLived}
-use Rattle.unit.specs.Orders.{Fit, Same}
+use Rattle.unit.specs.Orders.{Same}
 use Rattle.unit.specs.Sealing.{Allowed}
 use Rattle.unit.specs.declared.tasks.Task.{Task}
 use Rattle.unit.specs.declared.units.Sealed.{Sealed}
@@ -26,20 +26,18 @@ abbrev pub Day : {E : Type 0} → List (Task E) → List (Task E) → List (Even
 Day before after h = Events before after (reverse h)
 
 -- the unit u was given the orders of the tasks and is v then
-pub record Carried {F E : Type 0} (sound : F → Type 0) (ops : F → Ops E) (u v : Sealed F E) (before after : List (Task E)) : Type 0 where
+pub record Carried {F E : Type 0} {meaning : Ghosts F E} (u v : Sealed F E meaning) (before after : List (Task E)) : Type 0 where
   pub same : Same u v
-  pub fit : Fit sound ops v
   pub day : List (Event E)
   pub came : Day before after day
-  pub lived : (h : List (Event E)) → HasLived ops h u → HasLived ops (day ++ h) v
+  pub lived : (h : List (Event E)) → HasLived h u → HasLived (day ++ h) v
 
 -- A unit was sealed on the field f with α and n, given the orders of the tasks, and is u then: the day of the tasks is the one that it has lived.
-pub record Worked {F E : Type 0} (sound : F → Type 0) (ops : F → Ops E) (f : F) (α : E) (n : ℕ) (before after : List (Task E)) (u : Sealed F E) : Type 0 where
-  pub allowed : Allowed (ops f) α n
+pub record Worked {F E : Type 0} {meaning : Ghosts F E} (f : F) (α : E) (n : ℕ) (before after : List (Task E)) (u : Sealed F E meaning) : Type 0 where
+  pub allowed : Allowed (meaning.ops f) α n
   pub field_is : u.field ≡ f
   pub alpha_is : u.alpha ≡ α
   pub length_is : u.length ≡ n
-  pub fit : Fit sound ops u
   pub day : List (Event E)
   pub came : Day before after day
-  pub lived : HasLived ops day u
+  pub lived : HasLived day u

@@ -2,7 +2,6 @@
 ghost use Rattle.std.specs.Prelude.{◌≡◌, List, MatchResult, OnOk};
 ghost use Rattle.unit.specs.Days.{Event, Throughout};
 ghost use Rattle.unit.specs.Law.{FieldLaw, BlockLaw, OrderLaw};
-ghost use Rattle.unit.specs.Orders.{Fit};
 ghost use Rattle.unit.specs.Sealing.{RefusesSealing};
 ghost use Rattle.unit.specs.Tasks.{Day, Carried, Worked};
 
@@ -13,8 +12,7 @@ use algebra::{Field, RootedField};
 impl<F: RootedField> Sealed<F> {
     // Gives the unit the order of each task, one after the other, and keeps the answers in the tasks.
     fn carry_out(&mut self, tasks: &mut [Task<F::Elem>])
-        requires { Fit F.Field.sound F.Field.ops self.old }
-        ensures { Carried F.Field.sound F.Field.ops self.old self.new tasks.old tasks.new }
+        ensures { Carried self.old self.new tasks.old tasks.new }
     {
         for task in tasks.iter_mut() {
             task.answer = Some(self.order(task.kind, task.number, task.block.as_mut_slice()));
@@ -29,11 +27,10 @@ pub fn work_day<F: RootedField>(
     length: usize,
     tasks: &mut [Task<F::Elem>],
 ) -> Result<Sealed<F>, Rejected<F>>
-    requires { F.Field.sound unit.field }
     ensures field { FieldLaw (F.Field.ops unit.field) }
     ensures blocks { OnOk result ((h : List (Event F.Elem)) → Day tasks.old tasks.new h → Throughout (BlockLaw (F.Field.ops unit.field) alpha length) h) }
     ensures orders { OnOk result ((h : List (Event F.Elem)) → Day tasks.old tasks.new h → Throughout OrderLaw h) }
-    ensures tasks { MatchResult result (Worked F.Field.sound F.Field.ops unit.field alpha length tasks.old tasks.new) (λ e. RefusesSealing (F.Field.ops unit.field) alpha length e.fault × (e.open ≡ unit) × (tasks.new ≡ tasks.old)) }
+    ensures tasks { MatchResult result (Worked unit.field alpha length tasks.old tasks.new) (λ e. RefusesSealing (F.Field.ops unit.field) alpha length e.fault × (e.open ≡ unit) × (tasks.new ≡ tasks.old)) }
 {
     let mut sealed = unit.seal(alpha, length)?;
     sealed.carry_out(tasks);

@@ -25,7 +25,7 @@ impl<F: RootedField + Drop> Sealed<F> {
         ensures named { result.named ≡ self.progress.named }
         ensures taken { result.taken ≡ self.progress.taken }
         ensures changed { result.changed ≡ self.progress.changed }
-        ensures day { (h : List (Event F.Elem)) → HasLived F.Field.ops h self → Reports h result }
+        ensures day { (h : List (Event F.Elem)) → HasLived h self → Reports h result }
     {
         Report {
             state: self.progress.state,

@@ -1,12 +1,11 @@
 // Making open units, and sealing them.
 ghost use Rattle.std.specs.Prelude.{◌≡◌, IfOk, MatchResult};
-ghost use Rattle.unit.specs.Orders.{Stands, Fit};
+ghost use Rattle.unit.specs.Orders.{Stands};
 ghost use Rattle.unit.specs.Sealing.{Allowed, RefusesSealing};
 ghost use Rattle.unit.specs.declared.states.State.TheVariants.{Parked};
 
 use crate::faults::UnitFault;
 use crate::progress::Progress;
-use crate::states::State;
 use crate::units::{Open, Rejected, Sealed};
 use algebra::{Field, RootedField};
 use code::generates;
@@ -20,10 +19,8 @@ impl<F: RootedField> Open<F> {
 
     // Fixes the generator and the block length. A refusal carries the open unit, unchanged.
     pub fn seal(self, alpha: F::Elem, length: usize) -> Result<Sealed<F>, Rejected<F>>
-        requires { F.Field.sound self.field }
         ensures answer { MatchResult result (λ u. Allowed (F.Field.ops self.field) alpha length × (u.field ≡ self.field) × (u.alpha ≡ alpha) × (u.length ≡ length)) (λ e. RefusesSealing (F.Field.ops self.field) alpha length e.fault × (e.open ≡ self)) }
         ensures parked { IfOk result (λ u. Stands u.progress Parked 0 0 0) }
-        ensures fit { IfOk result (Fit F.Field.sound F.Field.ops) }
     {
         if length < 5 || length > 1024 {
             return Err(self.rejected(UnitFault::BlockLength));
@@ -32,17 +29,11 @@ impl<F: RootedField> Open<F> {
             return Err(self.rejected(UnitFault::Generator));
         }
         let Open { field } = self;
-        let progress = Progress {
-            state: State::Parked,
-            named: 0,
-            taken: 0,
-            changed: 0,
-        };
         Ok(Sealed {
             field,
             alpha,
             length,
-            progress,
+            progress: Progress::parked(),
         })
     }
 

@@ -1,5 +1,5 @@
 // Quadratic steps of an open unit.
-ghost use Rattle.std.specs.Prelude.{◌≡◌, IfOk, MatchResult};
+ghost use Rattle.std.specs.Prelude.{◌≡◌, MatchResult};
 ghost use Rattle.algebra.specs.declared.faults.FieldFault.TheVariants.{NotNonsquare};
 ghost use Rattle.quadratic.specs.Pairs.{Nonsquare};
 ghost use Rattle.unit.specs.declared.faults.UnitFault.TheVariants as faults;
@@ -25,9 +25,7 @@ impl<F: RootedField> From<Unextended<F>> for Rejected<F> {
 impl<F: RootedField> Open<F> {
     // The unit on the field with a square root of beta added. A refusal carries the open unit, unchanged.
     pub fn step(self, beta: F::Elem) -> Result<Open<Quad<F>>, Rejected<F>>
-        requires { F.Field.sound self.field }
-        ensures answer { MatchResult result (λ u. Nonsquare (F.Field.ops self.field) beta × (u.field.base ≡ self.field) × (u.field.beta ≡ beta)) (λ e. (Nonsquare (F.Field.ops self.field) beta → ⊥) × (e.fault ≡ faults.Field NotNonsquare) × (e.open ≡ self)) }
-        ensures sound { IfOk result (λ u. F.Field.sound u.field.base × Nonsquare (F.Field.ops u.field.base) u.field.beta) }
+        ensures { MatchResult result (λ u. Nonsquare (F.Field.ops self.field) beta × (u.field.base ≡ self.field) × (u.field.beta ≡ beta)) (λ e. (Nonsquare (F.Field.ops self.field) beta → ⊥) × (e.fault ≡ faults.Field NotNonsquare) × (e.open ≡ self)) }
     {
         let Open { field } = self;
         let field = Quad::new(field, beta)?;

@@ -1,7 +1,9 @@
 // Open and sealed units: an open one still lacks its generator and block length, a sealed one keeps them.
+ghost use Rattle.unit.specs.Sealing.{Allowed};
+
 use crate::faults::UnitFault;
 use crate::progress::Progress;
-use algebra::RootedField;
+use algebra::{Field, RootedField};
 
 // A unit on a field, before its generator and block length are fixed.
 #[derive(Drop)]
@@ -16,6 +18,7 @@ pub struct Sealed<F: RootedField> {
     pub(crate) alpha: F::Elem,
     pub(crate) length: usize,
     pub(crate) progress: Progress,
+    ghost allowed: { Allowed (F.Field.ops field) alpha length },
 }
 
 // A refusal, with the open unit that it hands back.

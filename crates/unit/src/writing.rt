@@ -1,18 +1,29 @@
 // Writing blocks with a sealed unit.
-ghost use Rattle.std.specs.Result.{MatchResult};
-ghost use Rattle.unit.specs.Orders.{Fit};
+ghost use Rattle.std.specs.Prelude.{◌≡◌, MatchResult};
 ghost use Rattle.writer.specs.Writing.{Written, Unwritten};
 
 use crate::units::Sealed;
 use algebra::{Field, RootedField};
-use code::CodeFault;
+use code::{Code, CodeFault};
 
 impl<F: RootedField> Sealed<F> {
+    // The code of the unit's blocks.
+    pub(crate) fn code(&self) -> Code<'_, F>
+        ensures field { result.field.now ≡ self.now.field }
+        ensures generator { result.alpha ≡ self.now.alpha }
+        ensures length { result.length ≡ self.now.length }
+    {
+        Code {
+            field: &self.field,
+            alpha: self.alpha,
+            length: self.length,
+        }
+    }
+
     // Writes the checks of a block by the unit's generator and length. The unit stays as it is.
     pub fn encode(&self, block: &mut [F::Elem]) -> Result<(), CodeFault>
-        requires { Fit F.Field.sound F.Field.ops self.now }
         ensures { MatchResult result (λ _. Written (F.Field.ops self.now.field) self.now.alpha self.now.length block.old block.new) (Unwritten (F.Field.ops self.now.field) self.now.length block.old block.new) }
     {
-        writer::encode(&self.field, self.alpha, self.length, block)
+        writer::encode(&self.code(), block)
     }
 }

@@ -11,7 +11,6 @@ pub loop-task-init : goal.loop-task-init
 loop-task-init g c = (
   record {
     same = record { field_is = refl; alpha_is = refl; length_is = refl };
-    fit = c.requires;
     day = [];
     came = none;
     lived = λ h l. l;
@@ -35,8 +34,8 @@ loop-task-preserved g c =
     record { kind_is = (refl, refl); number_is = (refl, refl); offered_is = c.as_mut_slice.ensures.value; left_is = sym (with_items_is t.block after len); answer_is = refl } in
     let low : i < length ys = omega arith in
     let before : take (i + 1) xs ≡ take i xs ++ t ∷ [] = take_more xs i d c.loop-task-test.true ∙ ap (λ z. take i xs ++ z ∷ []) (sym (c.loop-task.invariant.1 i d (omega arith))) in (
-      subst (λ b. Carried g.F.Field.sound g.F.Field.ops u w b (take (i + 1) (set ys i x))) (sym before)
-          (subst (Carried g.F.Field.sound g.F.Field.ops u w (take i xs ++ t ∷ [])) (sym (take_more_set ys i x low))
+      subst (λ b. Carried u w b (take (i + 1) (set ys i x))) (sym before)
+          (subst (Carried u w (take i xs ++ t ∷ [])) (sym (take_more_set ys i x low))
           (carried_more c.loop-task.invariant.0 c.order.ensures came)),
       λ k d h. let ne : k ≢ i = omega arith in get_or-set_other ys i k x d ne ∙ c.loop-task.invariant.1 k d (omega arith),
     )
@@ -46,5 +45,5 @@ returns g c =
     let i = c.loop-task.task-index in
     let xs = c.args.tasks.now in
     let ys = c.loop-task.tasks in
-    subst (λ b. Carried g.F.Field.sound g.F.Field.ops c.args.self.now c.loop-task.self b ys) (take_all i xs c.loop-task-test.false)
-    (subst (Carried g.F.Field.sound g.F.Field.ops c.args.self.now c.loop-task.self (take i xs)) (take_all i ys (omega arith)) c.loop-task.invariant.0)
+    subst (λ b. Carried c.args.self.now c.loop-task.self b ys) (take_all i xs c.loop-task-test.false)
+    (subst (Carried c.args.self.now c.loop-task.self (take i xs)) (take_all i ys (omega arith)) c.loop-task.invariant.0)
