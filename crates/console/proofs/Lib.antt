@@ -1,4 +1,5 @@
 mod Appends
+mod Climbs
 mod Coordinated
 mod Once
 mod Outcomes

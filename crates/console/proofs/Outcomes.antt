@@ -1,17 +1,14 @@
 -- What the program's answers stand for: lines out of order, and lines to a unit at a position.
-use Rattle.std.proofs.Common.{◌≡◌, ℕ, suc, ◌<◌, ◌⊎◌, List, Err, codes, Vec, sym, refl, ap, ◌∙◌, subst, inl, inr, arith}
+use Rattle.std.proofs.Common.{◌≡◌, ℕ, ◌<◌, ◌⊎◌, List, Err, Vec, sym, refl, ap, ◌∙◌, subst, inl, inr, arith}
 use Rattle.std.specs.declared.alloc.Global.{Global}
 use Rattle.algebra.specs.Operations.{Ops}
-use Rattle.algebra.specs.declared.faults.FieldFault.TheVariants.{NotNonsquare}
+use Rattle.algebra.specs.declared.Field.{Ghosts}
 use Rattle.lines.specs.Lines.{Content, step, alpha, find, meant, Proper, written}
 use Rattle.lines.specs.declared.Line.{Line}
 use Rattle.lines.specs.declared.Line.TheVariants.{Prime, Nonresidue, Step, Alpha, Length, Find}
 use Rattle.lines.proofs.Once.{written_once}
-use Rattle.quadratic.specs.Pairs.{Nonsquare, pairs}
 use Rattle.quadratic.specs.Signs.{coordinates}
 use Rattle.quadratic.specs.Towers.{Height}
-use Rattle.unit.specs.declared.faults.UnitFault.{UnitFault}
-use Rattle.unit.specs.declared.faults.UnitFault.TheVariants as unit_fault
 use Rattle.console.specs.Commissions.{field_of, phase}
 use Rattle.console.specs.Conversation.{Phase, unsealed, alpha_given, sealed, Position, begun, prime_given, unit_on, Response, accepted, found, refused, UnitInOrder, then_alpha, then_find, UnitOutcome, root_found, root_refused, InOrder, then_step, Outcome, stepped, step_refused, Answers, in_order, unreadable}
 use Rattle.console.specs.Conversation as conversation
@@ -20,12 +17,12 @@ use Rattle.console.specs.Replies.{response}
 use Rattle.console.specs.Stages.{position}
 use Rattle.console.specs.declared.commissions.Commission.{Commission}
 use Rattle.console.specs.declared.commissions.Commission.TheVariants.{Open, Generator, Sealed}
-use Rattle.console.specs.declared.faults.ShiftFault.TheVariants.{Unreadable, Unit}
+use Rattle.console.specs.declared.faults.ShiftFault.TheVariants.{Unreadable}
 use Rattle.console.specs.declared.replies.Answer.{Answer}
 use Rattle.console.specs.declared.stages.Stage.{Stage}
 
 -- a line that is not in order leaves the unit, or the stage, as it was
-pub unit_out_of_order : {F E : Type 0} (o : Ops E) (f : E → List ℕ) (x : Content) (k : ℕ) (u : Commission F E) (a : Answer (Commission F E))
+pub unit_out_of_order : {F E : Type 0} {m : Ghosts F E} (o : Ops E) (f : E → List ℕ) (x : Content) (k : ℕ) (u : Commission F E m) (a : Answer (Commission F E m))
     → a.left ≡ u → a.reply ≡ Err (Unreadable k) → (UnitInOrder f (phase u) x → ⊥)
     → UnitHandled o f (phase u) k x (phase a.left) (response a.reply) × (field_of a.left ≡ field_of u)
 unit_out_of_order o f x k u a e r h = (inr (h, ap phase e, ap response r), ap field_of e)
@@ -109,18 +106,6 @@ unit_answered n o q s t x k r e none (inr (out, same, unread)) =
       unread,
     )
 
--- a step line where the unit is past its steps, or with numbers that are no element
-pub no_step_due : (n : ℕ) (o : Ops (Height n ℕ)) (s : Phase (Height n ℕ)) (xs : List ℕ) → ((β : Height n ℕ) → s ≡ unsealed → xs ≡ coordinates n β → ⊥)
-    → InOrder (unit_on n o s) (step xs) → ⊥
-no_step_due n o s xs none h =
-    elim (step_or_unit h) [
-      | inl (ys, is, l, open_still, (β, e)) ↦ none β open_still ((let same : xs ≡ ys = cc in same) ∙ e)
-      | inr u ↦ no_unit_step (coordinates n) u
-    ]
-  where
-    no_unit_step : {E : Type 0} (f : E → List ℕ) {s : Phase E} {ys : List ℕ} → UnitInOrder f s (step ys) → ⊥
-    no_unit_step f u = elim u [ ]
-
 -- a line that was read, in order or not, is answered
 pub answered : (s : Position) (k : ℕ) (bytes : List ℕ) (x : Content) → Proper x × (bytes ≡ written x) → (t : Position) (r : Response)
     → Handled s k x t r → Answers s k bytes t r
@@ -137,19 +122,7 @@ answered_none k bytes s a e r none =
     subst (λ v. Answers (position s) k bytes (position v) (response a.reply)) (sym e)
     (subst (λ v. Answers (position s) k bytes (position s) (response v)) (sym r) (unreadable (λ x proper e o. none x proper e)))
 
--- a step that was made, or refused
-pub step_made : (n : ℕ) (o : Ops (Height n ℕ)) (q : Ops (Height (suc n) ℕ)) (xs : List ℕ) (k : ℕ) (β : Height n ℕ) → n < 2 → xs ≡ coordinates n β → Nonsquare o β → q ≡ pairs o β
-    → Handled (unit_on n o unsealed) k (step xs) (unit_on (suc n) q unsealed) (accepted (codes "step"))
-step_made n o q xs k β l e h same =
-    inl (subst (λ v. Outcome (unit_on n o unsealed) (step xs) (unit_on (suc n) v unsealed) (accepted (codes "step"))) (sym same) (stepped β l e h))
-
-pub step_not_made : (n : ℕ) (o q : Ops (Height n ℕ)) (xs : List ℕ) (k : ℕ) (β : Height n ℕ) (fault : UnitFault) → n < 2 → xs ≡ coordinates n β → (Nonsquare o β → ⊥)
-    → fault ≡ unit_fault.Field NotNonsquare → q ≡ o → Handled (unit_on n o unsealed) k (step xs) (unit_on n q unsealed) (refused (Unit fault))
-step_not_made n o q xs k β fault l e h due same =
-    inl (subst (λ v. Outcome (unit_on n o unsealed) (step xs) (unit_on n v unsealed) (refused (Unit fault))) (sym same)
-    (subst (λ v. Outcome (unit_on n o unsealed) (step xs) (unit_on n o unsealed) (refused (Unit v))) (sym due) (step_refused β l e h)))
-
-pub open_phase : {F E : Type 0} (u : Commission F E) → phase u ≡ unsealed → ((v : _) → u ≡ Open v → ⊥) → ⊥
+pub open_phase : {F E : Type 0} {m : Ghosts F E} (u : Commission F E m) → phase u ≡ unsealed → ((v : _) → u ≡ Open v → ⊥) → ⊥
 open_phase (Open v) e other = other v refl
 open_phase (Generator v a) e other = let z : ◌≡◌ {A = ℕ} 0 1 = cc in omega arith
 open_phase (Sealed v) e other = let z : ◌≡◌ {A = ℕ} 0 1 = cc in omega arith

@@ -4,6 +4,7 @@ pub mod Handling
 pub mod Replies
 pub mod Commissions
 pub mod Stages
+pub mod Steps
 pub mod Sessions
 pub mod Consoles
 pub mod Widths

@@ -10,6 +10,6 @@ abbrev pub position : Stage → Position
 position Start = begun
 position (Prime p) = prime_given p
 position (Single u) = unit_on 0 (modular (field_of u).modulus) (phase u)
-position (Double d) = unit_on 1 (pairs (modular (field_of d.unit).base.modulus) (field_of d.unit).beta) (phase d.unit)
-position (Quadruple q) =
-    unit_on 2 (pairs (pairs (modular (field_of q.unit).base.base.modulus) (field_of q.unit).base.beta) (field_of q.unit).beta) (phase q.unit)
+position (Double u) = unit_on 1 (pairs (modular (field_of u).base.modulus) (field_of u).beta) (phase u)
+position (Quadruple u) =
+    unit_on 2 (pairs (pairs (modular (field_of u).base.base.modulus) (field_of u).base.beta) (field_of u).beta) (phase u)

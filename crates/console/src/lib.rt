@@ -10,6 +10,7 @@ mod feeding;
 mod numbers;
 mod replies;
 mod stages;
+mod steps;
 mod units;
 mod writing;
 
@@ -20,5 +21,5 @@ pub use coordinates::Coordinates;
 pub use faults::ShiftFault;
 pub use feeding::{input_has_one_output, respond};
 pub use replies::{Answer, Answered, Reply};
-pub use stages::{Double, Quadruple, Stage};
+pub use stages::Stage;
 pub use writing::put_reply;

@@ -1,4 +1,7 @@
 // What a line is answered with.
+ghost use Rattle.std.specs.Prelude.{◌≡◌, Err};
+ghost use Rattle.console.specs.declared.faults.ShiftFault.TheVariants.{Unreadable};
+
 use crate::faults::ShiftFault;
 
 // A line that is not refused: its key, and of `find` the numbers of the root.
@@ -24,4 +27,30 @@ pub struct Answer<S> {
 pub struct Answered<'a> {
     pub reply: Result<Reply, ShiftFault>,
     pub rest: &'a [u8],
+}
+
+// A line that cannot be read here leaves everything as it was.
+pub fn unreadable<S>(left: S, k: u64) -> Answer<S>
+    ensures left { result.left ≡ left }
+    ensures reply { result.reply ≡ Err (Unreadable k) }
+{
+    Answer {
+        left,
+        reply: Err(ShiftFault::Unreadable(k)),
+    }
+}
+
+impl<S> Answer<S> {
+    // The answer that leaves what f makes of this one's.
+    pub fn map<T, F: FnOnce(S) -> T>(self, f: F) -> Answer<T>
+        requires { F.pre f self.left }
+        ensures left { F.post f self.left result.left }
+        ensures reply { result.reply ≡ self.reply }
+    {
+        let Answer { left, reply } = self;
+        Answer {
+            left: f(left),
+            reply,
+        }
+    }
 }

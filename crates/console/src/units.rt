@@ -1,31 +1,19 @@
 // Lines to a unit, once its steps are made: the same over every field.
-ghost use Rattle.std.specs.Prelude.{◌≡◌, IfOk, Err};
+ghost use Rattle.std.specs.Prelude.{◌≡◌, IfOk};
 ghost use Rattle.lines.specs.Lines.{meant};
 ghost use Rattle.console.specs.Commissions.{field_of, phase};
 ghost use Rattle.console.specs.Conversation.{unsealed, alpha_given, sealed};
 ghost use Rattle.console.specs.Handling.{Finds, UnitHandled};
 ghost use Rattle.console.specs.Replies.{response};
-ghost use Rattle.console.specs.declared.faults.ShiftFault.TheVariants.{Unreadable};
 
 use crate::commissions::Commission;
 use crate::coordinates::Coordinates;
 use crate::faults::ShiftFault;
-use crate::replies::{Answer, Reply};
+use crate::replies::{Answer, Reply, unreadable};
 use algebra::{Field, RootedField, find_root};
 use lines::Line;
 use std::alloc::{AllocError, Global};
 use unit::{Open, Sealed};
-
-// A line that cannot be read here leaves everything as it was.
-pub fn unreadable<S>(left: S, k: u64) -> Answer<S>
-    ensures left { result.left ≡ left }
-    ensures reply { result.reply ≡ Err (Unreadable k) }
-{
-    Answer {
-        left,
-        reply: Err(ShiftFault::Unreadable(k)),
-    }
-}
 
 // What comes of line number k, once it is read.
 pub fn answer_unit<F: RootedField + Drop>(
@@ -36,7 +24,6 @@ pub fn answer_unit<F: RootedField + Drop>(
 ) -> Result<Answer<Commission<F>>, AllocError>
 where
     F::Elem: Coordinates,
-    requires { F.Field.sound (field_of unit) }
     ensures { IfOk result (λ a. UnitHandled (F.Field.ops (field_of unit)) F.Elem.Coordinates.flat (phase unit) k (meant line) (phase a.left) (response a.reply) × (field_of a.left ≡ field_of unit)) }
 {
     match unit {
@@ -71,7 +58,6 @@ fn answer_generator<F: RootedField + Drop>(
 ) -> Answer<Commission<F>>
 where
     F::Elem: Coordinates,
-    requires { F.Field.sound unit.field }
     ensures { (UnitHandled (F.Field.ops unit.field) F.Elem.Coordinates.flat (alpha_given alpha) k (meant line) (phase result.left) (response result.reply)) × (field_of result.left ≡ unit.field) }
 {
     let Line::Length(n) = line else {
@@ -97,7 +83,6 @@ fn answer_sealed<F: RootedField + Drop>(
 ) -> Result<Answer<Commission<F>>, AllocError>
 where
     F::Elem: Coordinates,
-    requires { F.Field.sound unit.field }
     ensures { IfOk result (λ a. UnitHandled (F.Field.ops unit.field) F.Elem.Coordinates.flat (sealed unit.alpha unit.length) k (meant line) (phase a.left) (response a.reply) × (field_of a.left ≡ unit.field)) }
 {
     let Line::Find(numbers) = line else {
@@ -121,7 +106,6 @@ fn answer_find<F: RootedField>(
 ) -> Result<Result<Reply, ShiftFault>, AllocError>
 where
     F::Elem: Coordinates,
-    requires { F.Field.sound field.now }
     ensures { IfOk result (λ reply. Finds (F.Field.ops field.now) F.Elem.Coordinates.flat x (response reply)) }
 {
     match find_root(field, x) {
