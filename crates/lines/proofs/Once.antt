@@ -29,14 +29,12 @@ same_key text Fits injective k key is fits u v t g h e q =
     let r = append_cancel_left key (text u) (text v) (sym (is u) ∙ e ∙ ap written q ∙ is v) in
     ap k (injective u v (fits u g) (fits v (subst Proper q h)) r) ∙ sym q
 
-list_injective : (us vs : List ℕ) → NumberList us → NumberList vs → spelled us ≡ spelled vs → us ≡ vs
-list_injective us vs g h e = spelled_injective us vs g.1 h.1 e
 
 pub written_once : WrittenOnce
 unfolding number_of list_of
 written_once (prime u) t g h e = same_key numeral Fits32 numeral_injective prime (codes "prime=") (λ v. refl) (λ v p. p) u (number_of t) t g h e (grind arith)
 written_once (nonresidue u) t g h e = same_key numeral Fits32 numeral_injective nonresidue (codes "nonresidue=") (λ v. refl) (λ v p. p) u (number_of t) t g h e (grind arith)
-written_once (step us) t g h e = same_key spelled NumberList list_injective step (codes "step=") (λ vs. refl) (λ vs p. p) us (list_of t) t g h e (grind arith)
-written_once (alpha us) t g h e = same_key spelled NumberList list_injective alpha (codes "alpha=") (λ vs. refl) (λ vs p. p) us (list_of t) t g h e (grind arith)
+written_once (step us) t g h e = same_key spelled NumberList spelled_injective step (codes "step=") (λ vs. refl) (λ vs p. p) us (list_of t) t g h e (grind arith)
+written_once (alpha us) t g h e = same_key spelled NumberList spelled_injective alpha (codes "alpha=") (λ vs. refl) (λ vs p. p) us (list_of t) t g h e (grind arith)
 written_once (len u) t g h e = same_key numeral Fits32 numeral_injective len (codes "length=") (λ v. refl) (λ v p. p) u (number_of t) t g h e (grind arith)
-written_once (find us) t g h e = same_key spelled NumberList list_injective find (codes "find=") (λ vs. refl) (λ vs p. p) us (list_of t) t g h e (grind arith)
+written_once (find us) t g h e = same_key spelled NumberList spelled_injective find (codes "find=") (λ vs. refl) (λ vs p. p) us (list_of t) t g h e (grind arith)
