@@ -1,8 +1,9 @@
 -- A list of numerals is parted at its commas in one way only.
-use Rattle.std.proofs.Common.{◌≡◌, ℕ, zero, suc, ◌<◌, false, eqb, List, [], ◌∷◌, ◌++◌, length, get_or, map, sym, refl, ap, ◌∙◌, subst, arith}
+use Rattle.std.proofs.Common.{◌≡◌, ℕ, ◌<◌, false, eqb, List, [], ◌∷◌, ◌++◌, length, get_or, map, sym, refl, ap, ◌∙◌, arith}
 use Rattle.std.specs.List.{All, AllByRecursion, join_with_byte, slice_split}
+use Rattle.std.proofs.ByRecursion.{All-get_or}
 use Rattle.std.proofs.lemmas.Bool.{ne_eqb}
-use Rattle.std.proofs.lemmas.List.{append-nil, length-map}
+use Rattle.std.proofs.lemmas.List.{append-nil, get_or-map, length-map}
 use Rattle.std.proofs.lemmas.List.Elements.{All-from_get_or}
 use Rattle.std.proofs.lemmas.List.Splits.{slice_split_none, slice_split_at, length-slice_split, join_with_byte-slice_split}
 use Rattle.lines.specs.Numbers.{numeral, spelled, Fits32, NumberList}
@@ -32,17 +33,12 @@ read_all text [] fit e = absurd (omega (arith, ap length e, length-slice_split (
 read_all text (v ∷ vs) fit e =
     ((omega arith, fit), sym (join_with_byte-slice_split 44 text) ∙ ap (join_with_byte 44) (sym e) ∙ sym (spelled_joined (v ∷ vs)))
 
-numeral_at : (vs : List ℕ) (i : ℕ) (d : List ℕ) → AllByRecursion Fits32 vs → i < length (map numeral vs) → (v : ℕ) × Fits32 v × (get_or (map numeral vs) i d ≡ numeral v)
-numeral_at [] i d fit l = absurd (omega arith)
-numeral_at (v ∷ vs) zero d fit l = (v, fit.0, refl)
-numeral_at (v ∷ vs) (suc i) d fit l = numeral_at vs i d fit.1 (omega arith)
-
 -- a part that is no numeral: the text is no list
 pub bad_part : (text part : List ℕ) (i : ℕ) → (i < length (parts text)) × (part ≡ get_or (parts text) i part) → ((v : ℕ) → Fits32 v → part ≡ numeral v → ⊥) → (vs : List ℕ) → NumberList vs → text ≡ spelled vs → ⊥
 bad_part text part i at bad vs l e =
     let p : parts text ≡ map numeral vs = ap parts e ∙ parts_spelled vs l in
-    let n = numeral_at vs i part l.1 (omega (arith, ap length p, at.0)) in
-    bad n.0 n.1 (at.1 ∙ ap (λ ps. get_or ps i part) p ∙ n.2)
+    let k : i < length vs = omega (arith, ap length p, length-map vs numeral) in
+    bad (get_or vs i 0) (All-get_or Fits32 vs i 0 k l.1) (at.1 ∙ ap (λ ps. get_or ps i part) p ∙ get_or-map numeral vs i 0 part k)
 
 numerals_injective : (us vs : List ℕ) → AllByRecursion Fits32 us → AllByRecursion Fits32 vs → map numeral us ≡ map numeral vs → us ≡ vs
 numerals_injective [] [] g h e = refl

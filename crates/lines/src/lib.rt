@@ -6,7 +6,7 @@
 // N and an element E. Any other bytes are no line.
 #![tactic(auto)]
 
-ghost use Rattle.std.specs.Prelude.{◌≡◌, ◌⊎◌, ◌∷◌, ◌++◌, Some, IfOk, MatchOption};
+ghost use Rattle.std.specs.Prelude.{◌≡◌, ◌∷◌, ◌++◌, IfOk, MatchOption};
 ghost use Rattle.std.specs.Str.Iter.{LacksByte};
 ghost use Rattle.lines.specs.Lines.{Proper, meant, written, WrittenOnce};
 ghost use Rattle.lines.specs.Numbers.{Reads};
@@ -16,9 +16,8 @@ mod numbers;
 mod tests;
 
 use crate::numbers::value_after;
-use std::alloc::{AllocError, Global};
-
 pub use crate::numbers::{Numbers, put_number, put_numbers};
+use std::alloc::{AllocError, Global};
 
 // The parts before and after the first `mark`, or None where there is no mark.
 pub fn cut(text: &[u8], mark: u8) -> Option<(&[u8], &[u8])>
@@ -60,6 +59,7 @@ pub fn read_line(heap: Global, bytes: &[u8]) -> Result<Option<Line>, AllocError>
 }
 
 // Proves that no two lines are written alike.
+#[tactic(auto, using(crate::proofs::Once::written_once))]
 pub fn lines_are_written_once()
     ensures { WrittenOnce }
 {}

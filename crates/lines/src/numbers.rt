@@ -66,37 +66,29 @@ fn read_number(text: &[u8]) -> Option<u32>
     from_utf8(text).ok()?.parse().ok()
 }
 
-// The numbers of a comma-separated list.
-fn read_numbers(heap: Global, text: &[u8]) -> Result<Option<Vec<u32>>, AllocError>
-    ensures { IfOk result (λ o. Reads spelled NumberList vec_items text.now o) }
-{
-    let mut values = Vec::new(heap);
-    for part in text.split(|b| *b == b',') {
-        let Some(v) = read_number(part) else {
-            return Ok(None);
-        };
-        values.push(v)?;
-    }
-    Ok(Some(values))
-}
-
 // What a line may give after its key: a number, or the numbers of a list.
 pub(crate) trait Value: Sized {
-    // What a value says, which of it is proper, and how it is written.
-    ghost Said: { Type 0 };
-    ghost meant: { Self → Said };
-    ghost proper: { Said → Type 0 };
-    ghost written: { Said → List ℕ };
+    // What a value means, which meanings are proper, and how one is written.
+    ghost Meaning: { Type 0 };
 
-    // The value that the text writes.
+    ghost meant: { Self → Meaning };
+
+    ghost proper: { Meaning → Type 0 };
+
+    ghost written: { Meaning → List ℕ };
+
+    // The value that the text writes; None if it writes no proper one.
     fn read(heap: Global, text: &[u8]) -> Result<Option<Self>, AllocError>
         ensures { IfOk result (λ o. Reads written proper meant text.now o) };
 }
 
 impl Value for u32 {
-    ghost Said = { ℕ };
+    ghost Meaning = { ℕ };
+
     ghost meant = { λ v. v };
+
     ghost proper = { Fits32 };
+
     ghost written = { numeral };
 
     fn read(_heap: Global, text: &[u8]) -> Result<Option<u32>, AllocError> {
@@ -105,13 +97,23 @@ impl Value for u32 {
 }
 
 impl Value for Vec<u32> {
-    ghost Said = { List ℕ };
+    ghost Meaning = { List ℕ };
+
     ghost meant = { vec_items };
+
     ghost proper = { NumberList };
+
     ghost written = { spelled };
 
     fn read(heap: Global, text: &[u8]) -> Result<Option<Vec<u32>>, AllocError> {
-        read_numbers(heap, text)
+        let mut values = Vec::new(heap);
+        for part in text.split(|b| *b == b',') {
+            let Some(v) = read_number(part) else {
+                return Ok(None);
+            };
+            values.push(v)?;
+        }
+        Ok(Some(values))
     }
 }
 

@@ -1,11 +1,11 @@
 -- A numeral passes both tests, and what `parse` then reads is the number.
-use Rattle.std.proofs.Common.{◌≡◌, ℕ, List, length, get_or, IsUtf8, Ok, Err, Some, None, Option, Result, rules, sym, refl, ap, ◌∙◌, subst, ⊎_elim, arith}
+use Rattle.std.proofs.Common.{◌≡◌, Ok, Err, Some, Result, rules, sym, refl, subst}
 use Rattle.std.specs.Result.{MatchResult, result_ok}
 use Rattle.std.specs.Str.Parse.{ParsesUnsigned}
 use Rattle.std.proofs.lemmas.Fmt.{IsAscii-decimal}
 use Rattle.std.proofs.lemmas.Str.{IsUtf8-from_ascii}
 use Rattle.lines.specs.Numbers.{numeral, Fits32, Reads}
-use Rattle.lines.proofs.Numerals.{no_sign, no_leading_zero, parsed}
+use Rattle.lines.proofs.Numerals.{plain, parsed}
 use Rattle.lines.proofs.numbers.read_number.Goals as goal
 
 -- what is known of a value is known where `ok` keeps it
@@ -14,9 +14,7 @@ at_some (Ok y) P Q x e m = subst P (cc) m
 at_some (Err d) P Q x e m = cc
 
 pub returns-then-has_sign_or_leading_zero : goal.returns-then-has_sign_or_leading_zero
-returns-then-has_sign_or_leading_zero c v h e =
-    let first = ap (λ t. get_or t 0 0) e in
-    ⊎_elim (λ sign. no_sign v h (sym first ∙ sign)) (λ zero. omega (arith, ap length e, no_leading_zero v h (sym first ∙ zero.0))) (c.if-has_sign_or_leading_zero.ensures.0 refl)
+returns-then-has_sign_or_leading_zero c v h e = plain v h (rw e at (c.if-has_sign_or_leading_zero.ensures.0 refl))
 
 pub returns-in_err-ok : goal.returns-in_err-ok
 returns-in_err-ok c = rw c.from_residual.ensures (search (rules, IsUtf8-from_ascii, IsAscii-decimal))

@@ -2,7 +2,7 @@
 use Rattle.std.proofs.Common.{◌≡◌, map, vec_items}
 use Rattle.std.specs.List.{AllByRecursion}
 use Rattle.lines.specs.Numbers.{numeral, Fits32}
-use Rattle.lines.proofs.numbers.read_numbers.Given as goal
+use Rattle.lines.proofs.numbers.VecU32Value.read.Given as goal
 
 abbrev pub invariant-loop-part : goal.invariant-loop-part
 invariant-loop-part l = record {

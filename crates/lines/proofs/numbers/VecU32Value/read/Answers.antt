@@ -1,9 +1,9 @@
 -- Each part between commas is a numeral, or the text spells no list.
-use Rattle.std.proofs.Common.{◌≡◌, eqb, ◌∙◌, vec_items, sym, rules}
+use Rattle.std.proofs.Common.{eqb, ◌∙◌, vec_items, sym, rules}
 use Rattle.std.proofs.lemmas.Iterator.Consumers.{YieldsList-turn, YieldsList-end}
 use Rattle.std.proofs.lemmas.Iterator.Splits.{YieldsList-from_slice_split}
 use Rattle.lines.proofs.Spelled.{bad_part, read_all}
-use Rattle.lines.proofs.numbers.read_numbers.Goals as goal
+use Rattle.lines.proofs.numbers.VecU32Value.read.Goals as goal
 
 pub returns-in_default : goal.returns-in_default
 returns-in_default c =
