@@ -2,5 +2,4 @@
 pub mod Numerals
 pub mod Cuts
 pub mod Spelled
-pub mod Keys
 pub mod Once

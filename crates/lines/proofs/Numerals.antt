@@ -11,31 +11,28 @@ use Rattle.lines.specs.Numbers.{numeral, Fits32, Reads}
 by_value : IsNumeralModel (AllDigits 10) (digits_value 10)
 by_value = numerals_by_value (AllDigits 10) tells_digits
 
-pub numeral_some : (v : ℕ) → Fits32 v → 0 < length (numeral v)
-numeral_some v h = decimal_nonempty v (omega arith)
-
-pub no_leading_zero : (v : ℕ) → Fits32 v → get_or (numeral v) 0 0 ≡ 48 → length (numeral v) ≡ 1
-no_leading_zero zero h e = ap length (decimal_digit 0 (omega arith))
-no_leading_zero (suc v) h e = absurd (omega (arith, first_decimal (suc v) (omega arith) (omega arith)))
-
 -- a byte that is no digit, such as a comma, stands in no numeral
 pub numeral_lacks : (b v : ℕ) → (IsInRange 48 57 b → ⊥) → Fits32 v → LacksByte b (numeral v)
 numeral_lacks b v n h k l e = n (subst (IsInRange 48 57) e (digit_at (numeral v) k (digits_decimal by_value v (omega arith)) l))
 
-pub no_sign : (v : ℕ) → Fits32 v → get_or (numeral v) 0 0 ≡ 43 → ⊥
-no_sign v h e = numeral_lacks 43 v (λ i. omega arith) h 0 (numeral_some v h) e
+abbrev SignOrLeadingZero : List ℕ → Type 0
+SignOrLeadingZero text = (get_or text 0 0 ≡ 43) ⊎ ((get_or text 0 0 ≡ 48) × (1 < length text))
+
+-- a numeral has neither
+pub plain : (v : ℕ) → Fits32 v → SignOrLeadingZero (numeral v) → ⊥
+plain v h (inl sign) = numeral_lacks 43 v (λ i. omega arith) h 0 (decimal_nonempty v (omega arith)) sign
+plain zero h (inr more) = omega (arith, ap length (decimal_digit 0 (omega arith)))
+plain (suc v) h (inr more) = omega (arith, first_decimal (suc v) (omega arith) (omega arith))
 
 pub numeral_injective : (u v : ℕ) → Fits32 u → Fits32 v → numeral u ≡ numeral v → u ≡ v
 numeral_injective u v h k e = decimal_injective u v (omega arith) (omega arith) e
 
--- what `parse` answers for a text with no sign and no leading zero
-pub parsed : {E : Type 0} (text : List ℕ) (r : Result ℕ E) → ParsesUnsigned 32 10 text r → ((get_or text 0 0 ≡ 43) ⊎ ((get_or text 0 0 ≡ 48) × (1 < length text)) → ⊥) → Reads numeral Fits32 (λ v. v) text (result_ok r)
+-- what `parse` answers for a text with neither
+pub parsed : {E : Type 0} (text : List ℕ) (r : Result ℕ E) → ParsesUnsigned 32 10 text r → (SignOrLeadingZero text → ⊥) → Reads numeral Fits32 (λ v. v) text (result_ok r)
 parsed {E} text (Ok v) h n =
     let p = parse_plain by_value {E = E} 32 text (Ok v) h (λ sign. n (inl sign)) in
-    let e = p.1 in
     let lead : get_or text 0 0 ≡ 48 → length text ≡ 1 = λ zero. let m : 1 < length text → ⊥ = λ l. n (inr (zero, l)) in omega arith in
-    (omega arith, sym (decimal-digits_value by_value text p.0.0 p.0.1 lead (omega arith)) ∙ ap numeral (sym e))
+    (omega arith, sym (decimal-digits_value by_value text p.0.0 p.0.1 lead (omega arith)) ∙ ap numeral (sym p.1))
 parsed {E} text (Err d) h n = λ v fits e.
     let q = parse-decimal 32 v text (Err d) fits (omega arith) e h in
-    let z : ◌≡◌ {A = ℕ} 0 1 = cc in
-    omega arith
+    cc
