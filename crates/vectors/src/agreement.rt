@@ -22,7 +22,8 @@ impl Agreement {
     {
         Agreement {
             rows: rows.len(),
-            agreeing: rows.filter(agrees).count(),
+            // A closure, as the check leaves a goal open at `filter(agrees)`.
+            agreeing: rows.filter(|row| agrees(row)).count(),
         }
     }
 }

@@ -1,4 +1,4 @@
-// Blocks that are written and corrected with the generator 3, against values computed elsewhere.
+// Blocks that are written and corrected with the generator 3 modulo 929, against values computed elsewhere.
 use crate::agreement::Agreement;
 use algebra::FieldFault;
 use code::{CodeFault, generates};
@@ -8,9 +8,8 @@ use writer::encode;
 
 pub const WORDS: [[u32; 5]; 2] = [[1, 809, 723, 568, 522], [2, 689, 517, 207, 115]];
 
-// The code word with the data of this one; None where the data or the length are refused.
-fn write<const N: usize>(field: &PrimeField, word: [u32; N]) -> Option<[u32; N]> {
-    let mut block = word;
+// The block with its checks written anew; None where the data or the length are refused.
+fn write<const N: usize>(field: &PrimeField, mut block: [u32; N]) -> Option<[u32; N]> {
     *block.last_chunk_mut::<4>()? = [0; 4];
     if N < 5 || !generates(field, 3, N) {
         return None;
@@ -19,7 +18,7 @@ fn write<const N: usize>(field: &PrimeField, word: [u32; N]) -> Option<[u32; N]>
     Some(block)
 }
 
-// How a block of n symbols is corrected, and what it is then; None where there is no code of that length.
+// How the block is corrected as one of n symbols, and what it is then; None where there is no code of that length.
 fn mend<const N: usize>(
     field: &PrimeField,
     n: usize,

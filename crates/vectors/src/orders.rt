@@ -18,6 +18,7 @@ struct Row {
 }
 
 impl Row {
+    // The order, yet to be answered.
     fn task(&self, heap: Global) -> Result<Task<u32>, AllocError> {
         Ok(Task {
             kind: self.kind,
@@ -27,6 +28,7 @@ impl Row {
         })
     }
 
+    // Whether the order is answered and leaves its block as is due.
     fn agrees(&self, task: &Task<u32>) -> bool {
         task.answer == Some(self.answer) && task.block.as_slice() == self.left.as_slice()
     }
@@ -114,13 +116,11 @@ fn rows() -> [Row; 16] {
     ]
 }
 
-// How many orders of the day are answered and leave their block as is due.
+// The orders of the day, given to one unit.
 pub fn day(heap: Global, field: PrimeField) -> Result<Agreement, Failure> {
     let rows = rows();
     let mut tasks: Vec<Task<u32>> = rows.iter().map(|row| row.task(heap)).try_collect(heap)?;
     work_day(Open::new(field), 3, 5, tasks.as_mut_slice())?;
-    Ok(Agreement::of(
-        rows.iter().zip(tasks.iter()),
-        |(row, task)| row.agrees(task),
-    ))
+    let pairs = rows.iter().zip(tasks.iter());
+    Ok(Agreement::of(pairs, |(row, task)| row.agrees(task)))
 }
