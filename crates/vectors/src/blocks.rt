@@ -1,65 +1,41 @@
-// Blocks that are written and corrected with 929 and the generator 3, against values computed elsewhere.
-use crate::pdf417::WORDS;
+// Blocks that are written and corrected with the generator 3 modulo 929, against values computed elsewhere.
+use crate::agreement::Agreement;
 use algebra::FieldFault;
 use code::{CodeFault, generates};
 use corrector::correct;
 use prime_field::PrimeField;
 use writer::encode;
 
-// Writes the checks of a block; false where that is refused.
-fn write(block: &mut [u32]) -> bool {
-    let Ok(field) = PrimeField::new(929, 3) else {
-        return false;
-    };
-    let n = block.len();
-    if n < 5 || !generates(&field, 3, n) {
-        return false;
+pub const WORDS: [[u32; 5]; 2] = [[1, 809, 723, 568, 522], [2, 689, 517, 207, 115]];
+
+// The block with its checks written anew; None where the data or the length are refused.
+fn write<const N: usize>(field: &PrimeField, mut block: [u32; N]) -> Option<[u32; N]> {
+    *block.last_chunk_mut::<4>()? = [0; 4];
+    if N < 5 || !generates(field, 3, N) {
+        return None;
     }
-    encode(&field, 3, n, block).is_ok()
+    encode(field, 3, N, &mut block).ok()?;
+    Some(block)
 }
 
-// Corrects a block of n symbols.
-fn mend(n: usize, block: &mut [u32]) -> Result<usize, CodeFault> {
-    let Ok(field) = PrimeField::new(929, 3) else {
-        return Err(CodeFault::NoCodeWord);
-    };
-    if !generates(&field, 3, n) {
-        return Err(CodeFault::NoCodeWord);
+// How the block is corrected as one of n symbols, and what it is then; None where there is no code of that length.
+fn mend<const N: usize>(
+    field: &PrimeField,
+    n: usize,
+    mut block: [u32; N],
+) -> Option<(Result<usize, CodeFault>, [u32; N])> {
+    if !generates(field, 3, n) {
+        return None;
     }
-    correct(&field, 3, n, block)
+    let answer = correct(field, 3, n, &mut block);
+    Some((answer, block))
 }
 
-pub fn written() -> u32 {
-    let mut agreeing = 0u32;
-    for word in [[1, 809, 723, 568, 522], [2, 689, 517, 207, 115]] {
-        let mut block = [word[0], 0, 0, 0, 0];
-        if write(&mut block) && block == word {
-            agreeing = agreeing.saturating_add(1);
-        }
-    }
-    agreeing
+pub fn written<const N: usize>(field: &PrimeField, words: &[[u32; N]]) -> Agreement {
+    Agreement::of(words.iter(), |&&word| write(field, word) == Some(word))
 }
 
-// The check words of a symbology that people of the field know.
-pub fn written_as_pdf417() -> u32 {
-    let mut agreeing = 0u32;
-    for word in WORDS {
-        let mut block = [0; 12];
-        block[0..8].copy_from_slice(&word[0..8]);
-        if write(&mut block) && block == word {
-            agreeing = agreeing.saturating_add(1);
-        }
-    }
-    agreeing
-}
-
-// Whether the block is left as `after` with this answer.
-fn mends(before: [u32; 5], after: [u32; 5], answer: Result<usize, CodeFault>) -> bool {
-    let mut block = before;
-    mend(5, &mut block) == answer && block == after
-}
-
-pub fn corrected() -> u32 {
+pub fn corrected(field: &PrimeField) -> Agreement {
     let zeros = [0, 0, 0, 0, 0];
     let ones = [1, 1, 1, 1, 1];
     let word = [1, 809, 723, 568, 522];
@@ -76,17 +52,13 @@ pub fn corrected() -> u32 {
         (ones, ones, Err(CodeFault::NoCodeWord)),
         (outside, outside, Err(symbol)),
     ];
-    let mut agreeing = 0u32;
-    for (before, after, answer) in table {
-        if mends(before, after, answer) {
-            agreeing = agreeing.saturating_add(1);
-        }
-    }
-    agreeing
+    Agreement::of(table.into_iter(), |&(before, after, answer)| {
+        mend(field, 5, before) == Some((answer, after))
+    })
 }
 
-// A block of another length is refused with it.
-pub fn wrong_length() -> bool {
-    let mut block = [1, 809, 723, 568];
-    mend(5, &mut block) == Err(CodeFault::Length(4))
+// Whether a block of another length is refused with it, and left as it was.
+pub fn refuses_length(field: &PrimeField) -> bool {
+    let block = [1, 809, 723, 568];
+    mend(field, 5, block) == Some((Err(CodeFault::Length(4)), block))
 }

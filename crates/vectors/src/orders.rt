@@ -1,4 +1,6 @@
 // A working day of a unit with 929, the generator 3 and blocks of five symbols, against the answers that are due.
+use crate::agreement::Agreement;
+use crate::failures::Failure;
 use algebra::FieldFault;
 use code::CodeFault;
 use prime_field::PrimeField;
@@ -13,6 +15,23 @@ struct Row {
     offered: [u32; 5],
     answer: Result<u32, UnitFault>,
     left: [u32; 5],
+}
+
+impl Row {
+    // The order, yet to be answered.
+    fn task(&self, heap: Global) -> Result<Task<u32>, AllocError> {
+        Ok(Task {
+            kind: self.kind,
+            number: self.number,
+            block: Vec::from_slice(heap, &self.offered)?,
+            answer: None,
+        })
+    }
+
+    // Whether the order is answered and leaves its block as is due.
+    fn agrees(&self, task: &Task<u32>) -> bool {
+        task.answer == Some(self.answer) && task.block.as_slice() == self.left.as_slice()
+    }
 }
 
 const NONE: [u32; 5] = [0, 0, 0, 0, 0];
@@ -97,33 +116,11 @@ fn rows() -> [Row; 16] {
     ]
 }
 
-fn tasks(heap: Global) -> Result<Vec<Task<u32>>, AllocError> {
-    let mut tasks = Vec::new(heap);
-    for row in rows() {
-        tasks.push(Task {
-            kind: row.kind,
-            number: row.number,
-            block: Vec::from_slice(heap, &row.offered)?,
-            answer: None,
-        })?;
-    }
-    Ok(tasks)
-}
-
-// How many orders of the day are answered and leave their block as is due.
-pub fn day(heap: Global) -> Result<u32, AllocError> {
-    let mut agreeing = 0u32;
-    let Ok(field) = PrimeField::new(929, 3) else {
-        return Ok(agreeing);
-    };
-    let mut tasks = tasks(heap)?;
-    if work_day(Open::new(field), 3, 5, tasks.as_mut_slice()).is_err() {
-        return Ok(agreeing);
-    }
-    for (task, row) in tasks.iter().zip(rows().iter()) {
-        if task.answer == Some(row.answer) && task.block.as_slice() == row.left.as_slice() {
-            agreeing = agreeing.saturating_add(1);
-        }
-    }
-    Ok(agreeing)
+// The orders of the day, given to one unit.
+pub fn day(heap: Global, field: PrimeField) -> Result<Agreement, Failure> {
+    let rows = rows();
+    let mut tasks: Vec<Task<u32>> = rows.iter().map(|row| row.task(heap)).try_collect(heap)?;
+    work_day(Open::new(field), 3, 5, tasks.as_mut_slice())?;
+    let pairs = rows.iter().zip(tasks.iter());
+    Ok(Agreement::of(pairs, |(row, task)| row.agrees(task)))
 }

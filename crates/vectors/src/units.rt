@@ -1,33 +1,27 @@
-// Sealing at the limits of generators and lengths.
+// Sealing at the limits of generators and lengths. A refusal is known by its number.
+use crate::agreement::Agreement;
 use prime_field::PrimeField;
-use unit::Open;
+use unit::{Open, Sealed, UnitFault};
 
-// The number of the refusal of sealing, or 0 where the unit is sealed.
-fn sealing(p: u32, r: u32, alpha: u32, length: usize) -> u32 {
-    let Ok(field) = PrimeField::new(p, r) else {
-        return 1;
-    };
-    match Open::new(field).seal(alpha, length) {
-        Ok(_) => 0,
-        Err(rejected) => rejected.fault.number(),
-    }
+// Seals a unit with the field of p.
+fn seal(p: u32, r: u32, alpha: u32, length: usize) -> Result<Sealed<PrimeField>, UnitFault> {
+    let field = PrimeField::new(p, r).map_err(UnitFault::Field)?;
+    Open::new(field)
+        .seal(alpha, length)
+        .map_err(|rejected| rejected.fault)
 }
 
-pub fn sealings() -> u32 {
+pub fn sealings() -> Agreement {
     let table = [
-        (29, 2, 2, 28, 0),
-        (29, 2, 2, 29, 5),
-        (929, 3, 3, 4, 4),
-        (929, 3, 3, 1025, 4),
-        (929, 3, 3, 5, 0),
-        (929, 3, 0, 5, 5),
-        (929, 3, 929, 5, 5),
+        (29, 2, 2, 28, None),
+        (29, 2, 2, 29, Some(5)),
+        (929, 3, 3, 4, Some(4)),
+        (929, 3, 3, 1025, Some(4)),
+        (929, 3, 3, 5, None),
+        (929, 3, 0, 5, Some(5)),
+        (929, 3, 929, 5, Some(5)),
     ];
-    let mut agreeing = 0u32;
-    for (p, r, alpha, length, expected) in table {
-        if sealing(p, r, alpha, length) == expected {
-            agreeing = agreeing.saturating_add(1);
-        }
-    }
-    agreeing
+    Agreement::of(table.into_iter(), |&(p, r, alpha, length, due)| {
+        seal(p, r, alpha, length).err().map(UnitFault::number) == due
+    })
 }
