@@ -1,7 +1,7 @@
 // Blocks that are written and corrected with the generator 3 modulo 929, against values computed elsewhere.
 use crate::agreement::Agreement;
 use algebra::FieldFault;
-use code::{CodeFault, generates};
+use code::{Code, CodeFault};
 use corrector::correct;
 use prime_field::PrimeField;
 use writer::encode;
@@ -11,10 +11,11 @@ pub const WORDS: [[u32; 5]; 2] = [[1, 809, 723, 568, 522], [2, 689, 517, 207, 11
 // The block with its checks written anew; None where the data or the length are refused.
 fn write<const N: usize>(field: &PrimeField, mut block: [u32; N]) -> Option<[u32; N]> {
     *block.last_chunk_mut::<4>()? = [0; 4];
-    if N < 5 || !generates(field, 3, N) {
+    let code = Code::new(field, 3, N)?;
+    if N < 5 {
         return None;
     }
-    encode(field, 3, N, &mut block).ok()?;
+    encode(&code, &mut block).ok()?;
     Some(block)
 }
 
@@ -24,10 +25,8 @@ fn mend<const N: usize>(
     n: usize,
     mut block: [u32; N],
 ) -> Option<(Result<usize, CodeFault>, [u32; N])> {
-    if !generates(field, 3, n) {
-        return None;
-    }
-    let answer = correct(field, 3, n, &mut block);
+    let code = Code::new(field, 3, n)?;
+    let answer = correct(&code, &mut block);
     Some((answer, block))
 }
 

@@ -15,9 +15,7 @@ pub struct Tally {
 
 impl Tally {
     // Tries each element of a field.
-    fn of<F: RootedField>(field: &F, elements: &[F::Elem]) -> Tally
-        requires { F.Field.sound field.now }
-    {
+    fn of<F: RootedField>(field: &F, elements: &[F::Elem]) -> Tally {
         Tally {
             squares: elements.iter().filter(|&&a| finds_root(field, a)).count(),
             others: elements
@@ -63,21 +61,15 @@ fn all_pairs<E: Copy>(heap: Global, elements: &[E]) -> Result<Vec<(E, E)>, Alloc
 }
 
 // Whether a root is found that squares to a.
-fn finds_root<F: RootedField>(field: &F, a: F::Elem) -> bool
-    requires { F.Field.sound field.now }
-{
+fn finds_root<F: RootedField>(field: &F, a: F::Elem) -> bool {
     find_root(field, a).is_ok_and(|x| squares_to(field, x, a))
 }
 
 // Whether no root is found, and none of the elements squares to a.
-fn finds_none<F: RootedField>(field: &F, elements: &[F::Elem], a: F::Elem) -> bool
-    requires { F.Field.sound field.now }
-{
+fn finds_none<F: RootedField>(field: &F, elements: &[F::Elem], a: F::Elem) -> bool {
     find_root(field, a).is_err() && !elements.iter().any(|&x| squares_to(field, x, a))
 }
 
-fn squares_to<F: Field>(field: &F, x: F::Elem, a: F::Elem) -> bool
-    requires { F.Field.sound field.now }
-{
+fn squares_to<F: Field>(field: &F, x: F::Elem, a: F::Elem) -> bool {
     field.contains(x) && field.contains(a) && field.equal(field.mul(x, x), a)
 }
