@@ -5,11 +5,6 @@ use Rattle.std.proofs.lemmas.List.{length-append}
 use Rattle.quadratic.specs.Signs.{coordinates}
 use Rattle.quadratic.specs.Towers.{Height}
 
-pub single : (xs : List ℕ) → length xs ≡ 1 → xs ≡ get_or xs 0 0 ∷ []
-single [] e = absurd (omega arith)
-single (x ∷ []) e = refl
-single (x ∷ y ∷ xs) e = absurd (omega arith)
-
 -- numbers that are not as many as an element has are not the coordinates of one
 pub no_element : {E : Type 0} (f : E → List ℕ) (width : ℕ) → ((x : E) → length (f x) ≡ width) → (xs : List ℕ) → (length xs ≡ width → ⊥) → (x : E) → xs ≡ f x → ⊥
 no_element f width long xs none x e = none (ap length e ∙ long x)

@@ -1,4 +1,3 @@
-mod Appends
 mod Climbs
 mod Coordinated
 mod Once

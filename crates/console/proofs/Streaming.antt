@@ -1,11 +1,11 @@
 -- How a session goes on: what is still to come does not matter to what was answered.
-use Rattle.std.proofs.Common.{◌≡◌, ℕ, zero, suc, ◌<◌, Bool, true, false, List, [], ◌∷◌, ◌++◌, length, MatchBool, sym, refl, ap, ◌∙◌, subst, append_assoc, arith}
+use Rattle.std.proofs.Common.{◌≡◌, ℕ, zero, suc, ◌<◌, ◌≤◌, Bool, true, false, List, [], ◌∷◌, ◌++◌, length, MatchBool, sym, refl, ap, ◌∙◌, subst, append_assoc, arith}
 use Rattle.std.proofs.lemmas.List.{append-nil, length-append, flat_map_more}
 use Rattle.std.specs.Str.Iter.{LacksByte}
 use Rattle.std.specs.List.{flat_map}
 use Rattle.console.specs.Consoles.{WritesOne, WritesLast, Holds, AnswersHeld, RefusesHeld}
 use Rattle.console.specs.Conversation.{Response, refused, shown, ends, Answers}
-use Rattle.console.specs.Sessions.{Session, over, last, line, end, too_long, line_after, Held, Waiting, initial, Responds, Continues, Output}
+use Rattle.console.specs.Sessions.{Session, over, last, line, end, too_long, longest, line_after, Held, Waiting, initial, Responds, Continues, Output}
 use Rattle.console.specs.declared.faults.ShiftFault.TheVariants.{Unreadable}
 
 -- a console whose session goes on responds as the session does
@@ -31,32 +31,19 @@ regroup : (h i front rest more : List ℕ) → i ≡ front ++ rest → h ++ (i +
 regroup h i front rest more e =
     ap (λ v. h ++ (v ++ more)) e ∙ ap (λ v. h ++ v) (append_assoc front rest more) ∙ sym (append_assoc h front (rest ++ more))
 
-pub continues_ended : (w : Waiting) (i : List ℕ) → w.ended ≡ true → Continues w i [] w []
-continues_ended w i e more qs h = rests w (i ++ more) qs e (silent w more qs e h)
-
--- the whole piece is held
-pub continues_held : (w w' : Waiting) (i : List ℕ) → w.ended ≡ false → Holds true w i w' → Continues w i [] w' []
-continues_held w w' i running_still (p, e, k, h, _) more qs s =
-    runs w (i ++ more) qs running_still
-    (subst (λ v. Session w.position w.lines v qs) (append_assoc w.held i more)
-    (subst (λ v. Session w.position w.lines (v ++ more) qs) h
-    (subst (λ v. Session w.position v (w'.held ++ more) qs) k
-    (subst (λ v. Session v w'.lines (w'.held ++ more) qs) p (running w' more qs (e ∙ running_still) s)))))
-
 -- the line has more bytes than it may have before its end
-pub continues_too_long : (w w₁ w' : Waiting) (i front rest left : List ℕ) (r : Response) → w.ended ≡ false → Held w.held
-    → i ≡ front ++ rest → LacksByte 10 front → Holds false w front w₁ → RefusesHeld w₁ w' r → Continues w i (r ∷ []) w' left
-continues_too_long w w₁ w' i front rest left r running_still held e free (same, long) refusal more qs h =
+pub continues_too_long : (w w' : Waiting) (i front rest left : List ℕ) (r : Response) → w.ended ≡ false → Held w.held
+    → i ≡ front ++ rest → LacksByte 10 front → longest < length (w.held ++ front) → RefusesHeld w w' r → Continues w i (r ∷ []) w' left
+continues_too_long w w' i front rest left r running_still held e free long refusal more qs h =
     subst (λ v. Responds w (i ++ more) (r ∷ v)) (sym (silent w' (left ++ more) qs refusal.ended h))
     (subst (λ v. Responds w (i ++ more) (v ∷ [])) (sym refusal.answer)
-    (subst (λ v. Responds w (i ++ more) (refused (Unreadable (line_after v.lines)) ∷ [])) (sym same)
     (runs w (i ++ more) (refused (Unreadable (line_after w.lines)) ∷ []) running_still
-    (too_long (w.held ++ front) (rest ++ more) (regroup w.held i front rest more e) (lacks_append 10 w.held front held.0 free) long))))
+    (too_long (w.held ++ front) (rest ++ more) (regroup w.held i front rest more e) (lacks_append 10 w.held front held.0 free) long)))
 
 -- the line ends, and is answered
 pub continues_line : (w w₁ w' : Waiting) (i front rest : List ℕ) (r : Response) → w.ended ≡ false → Held w.held
-    → i ≡ front ++ 10 ∷ rest → LacksByte 10 front → Holds true w front w₁ → AnswersHeld w₁ w' r → Continues w i (r ∷ []) w' rest
-continues_line w w₁ w' i front rest r running_still held e free (same, _, lines, whole, short) a more qs h = go (ends r) refl
+    → i ≡ front ++ 10 ∷ rest → LacksByte 10 front → length (w.held ++ front) ≤ longest → Holds w front w₁ → AnswersHeld w₁ w' r → Continues w i (r ∷ []) w' rest
+continues_line w w₁ w' i front rest r running_still held e free short (same, _, lines, whole) a more qs h = go (ends r) refl
   where
     answer : Answers w.position (line_after w.lines) (w.held ++ front) w'.position r
     answer =

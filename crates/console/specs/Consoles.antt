@@ -1,8 +1,8 @@
 -- Where a console stands, and what feeding it answers.
-use Rattle.std.specs.Prelude.{◌≡◌, ℕ, ◌<◌, ◌≤◌, Bool, true, false, List, [], ◌∷◌, ◌++◌, length, vec_items}
+use Rattle.std.specs.Prelude.{◌≡◌, ℕ, ◌<◌, true, List, [], ◌∷◌, ◌++◌, length, vec_items}
 use Rattle.std.specs.List.{flat_map}
 use Rattle.console.specs.Conversation.{Response, refused, shown, ends, Answers}
-use Rattle.console.specs.Sessions.{Waiting, Responds, Continues, longest, line_after}
+use Rattle.console.specs.Sessions.{Waiting, Responds, Continues, line_after}
 use Rattle.console.specs.Stages.{position}
 use Rattle.console.specs.declared.console.Console.{Console}
 use Rattle.console.specs.declared.faults.ShiftFault.TheVariants.{Unreadable}
@@ -22,11 +22,9 @@ WritesOne w input w' rest out out' = (r : Response) × AnswersOne w input r w' r
 abbrev pub WritesLast : Waiting → List ℕ → List ℕ → Type 0
 WritesLast w out out' = (rs : List Response) × Responds w [] rs × (out' ≡ out ++ flat_map shown rs)
 
--- the part is held too, or the line would be too long
-abbrev pub Holds : Bool → Waiting → List ℕ → Waiting → Type 0
-Holds true w part w' =
-    (w'.position ≡ w.position) × (w'.ended ≡ w.ended) × (w'.lines ≡ w.lines) × (w'.held ≡ w.held ++ part) × (length (w.held ++ part) ≤ longest)
-Holds false w part w' = (w' ≡ w) × (longest < length (w.held ++ part))
+-- the part is held too
+abbrev pub Holds : Waiting → List ℕ → Waiting → Type 0
+Holds w part w' = (w'.position ≡ w.position) × (w'.ended ≡ w.ended) × (w'.lines ≡ w.lines) × (w'.held ≡ w.held ++ part)
 
 -- the line held was answered with r
 pub record AnswersHeld (w w' : Waiting) (r : Response) : Type 0 where

@@ -31,10 +31,9 @@ impl Coordinates for u32 {
     ghost long = { λ n. refl };
 
     fn from_numbers(numbers: &[u32]) -> Option<u32> {
-        if numbers.len() == 1 {
-            Some(numbers[0])
-        } else {
-            None
+        match numbers {
+            [n] => Some(*n),
+            _ => None,
         }
     }
 
@@ -52,22 +51,12 @@ impl<E: Coordinates> Coordinates for (E, E) {
     ghost long = { λ p. halves_long E.Coordinates.width (E.Coordinates.flat p.0) (E.Coordinates.flat p.1) (E.Coordinates.long p.0) (E.Coordinates.long p.1) };
 
     fn from_numbers(numbers: &[u32]) -> Option<(E, E)> {
-        if numbers.len() % 2 == 1 {
-            return None;
-        }
-        let (front, back) = numbers.split_at(numbers.len() / 2);
-        let Some(low) = E::from_numbers(front) else {
-            return None;
-        };
-        let Some(high) = E::from_numbers(back) else {
-            return None;
-        };
-        Some((low, high))
+        let (low, high) = numbers.split_at(numbers.len() / 2);
+        Some((E::from_numbers(low)?, E::from_numbers(high)?))
     }
 
     fn put(self, out: &mut Vec<u32>) -> Result<(), AllocError> {
         self.0.put(out)?;
-        self.1.put(out)?;
-        Ok(())
+        self.1.put(out)
     }
 }

@@ -1,9 +1,9 @@
 // Feeding a console: its input is cut into lines, and each is answered at its end.
-ghost use Rattle.std.specs.Prelude.{◌≡◌, ℕ, List, [], ◌∷◌, ◌++◌, IfOk, MatchOption, OnOk};
+ghost use Rattle.std.specs.Prelude.{◌≡◌, ◌≤◌, ℕ, List, [], ◌∷◌, ◌++◌, length, Decides, IfOk, MatchOption, OnOk};
 ghost use Rattle.console.specs.Consoles.{AnswersHeld, AnswersOne, Holds, RefusesHeld, WritesLast, WritesOne, waiting};
 ghost use Rattle.console.specs.Conversation.{Response, ends};
 ghost use Rattle.console.specs.Replies.{response};
-ghost use Rattle.console.specs.Sessions.{AnsweredOnce, Continues, Output, Responds, initial};
+ghost use Rattle.console.specs.Sessions.{AnsweredOnce, Continues, Output, Responds, initial, line_after, longest};
 ghost use Rattle.std.specs.Str.Iter.{LacksByte};
 
 use crate::answers::answer_line;
@@ -44,20 +44,22 @@ impl Console {
             return Ok(None);
         }
         let Some((front, rest)) = cut(piece, b'\n') else {
-            if self.hold(piece)? {
-                return Ok(None);
+            if !self.has_room(piece) {
+                return Ok(Some(Answered {
+                    reply: self.refuse_held(),
+                    rest: &piece[piece.len()..],
+                }));
             }
-            return Ok(Some(Answered {
-                reply: self.refuse_held(),
-                rest: &piece[piece.len()..],
-            }));
+            self.hold(piece)?;
+            return Ok(None);
         };
-        if !self.hold(front)? {
+        if !self.has_room(front) {
             return Ok(Some(Answered {
                 reply: self.refuse_held(),
                 rest,
             }));
         }
+        self.hold(front)?;
         let reply = self.answer_held()?;
         Ok(Some(Answered { reply, rest }))
     }
@@ -72,30 +74,38 @@ impl Console {
         Ok(Some(self.answer_held()?))
     }
 
-    // Holds a part of a line too, unless the line is then too long.
-    fn hold(&mut self, part: &[u8]) -> Result<bool, AllocError>
-        requires { LacksByte 10 part.now }
-        ensures { IfOk result (λ fits. Holds fits (waiting self.old) part.now (waiting self.new)) }
+    // Whether a part of a line can be held too.
+    fn has_room(&self, part: &[u8]) -> bool
+        ensures { Decides result (length ((waiting self.now).held ++ part.now) ≤ longest) }
     {
-        if part.len() > LONGEST - self.held.len() {
-            return Ok(false);
-        }
-        self.held.extend_from_slice(part)?;
-        Ok(true)
+        part.len() <= LONGEST - self.held.len()
+    }
+
+    // Holds a part of a line too.
+    fn hold(&mut self, part: &[u8]) -> Result<(), AllocError>
+        requires line { LacksByte 10 part.now }
+        requires room { length ((waiting self.old).held ++ part.now) ≤ longest }
+        ensures { OnOk result (Holds (waiting self.old) part.now (waiting self.new)) }
+    {
+        self.held.extend_from_slice(part)
+    }
+
+    // The number of the line that has ended.
+    fn count_line(&mut self) -> u64
+        ensures number { result ≡ line_after (waiting self.old).lines }
+        ensures waiting { waiting self.new ≡ record (waiting self.old) { lines = result } }
+    {
+        self.lines = self.lines.saturating_add(1);
+        self.lines
     }
 
     // Answers the line held, which has ended.
     fn answer_held(&mut self) -> Result<Result<Reply, ShiftFault>, AllocError>
         ensures { IfOk result (λ reply. AnswersHeld (waiting self.old) (waiting self.new) (response reply)) }
     {
-        self.lines = self.lines.saturating_add(1);
+        let number = self.count_line();
         let stage = std::mem::replace(&mut self.stage, Stage::Start);
-        let answer = answer_line(
-            *self.held.allocator(),
-            stage,
-            self.lines,
-            self.held.as_slice(),
-        )?;
+        let answer = answer_line(*self.held.allocator(), stage, number, self.held.as_slice())?;
         self.held.clear();
         let Answer { left, reply } = answer;
         self.stage = left;
@@ -107,9 +117,8 @@ impl Console {
     fn refuse_held(&mut self) -> Result<Reply, ShiftFault>
         ensures { RefusesHeld (waiting self.old) (waiting self.new) (response result) }
     {
-        self.lines = self.lines.saturating_add(1);
         self.ended = true;
-        Err(ShiftFault::Unreadable(self.lines))
+        Err(ShiftFault::Unreadable(self.count_line()))
     }
 }
 

@@ -27,8 +27,7 @@ fn put_accepted(out: &mut Vec<u8>, key: &[u8]) -> Result<(), AllocError>
     ensures { OnOk result (out.new.items ≡ out.old.items ++ shown (accepted key.now)) }
 {
     out.extend_from_slice(key)?;
-    out.extend_from_slice(b"=ok\n")?;
-    Ok(())
+    out.extend_from_slice(b"=ok\n")
 }
 
 fn put_root(out: &mut Vec<u8>, values: &[u32]) -> Result<(), AllocError>
@@ -36,8 +35,7 @@ fn put_root(out: &mut Vec<u8>, values: &[u32]) -> Result<(), AllocError>
 {
     out.extend_from_slice(b"find=")?;
     put_numbers(out, values)?;
-    out.extend_from_slice(b"\n")?;
-    Ok(())
+    out.extend_from_slice(b"\n")
 }
 
 fn put_refusal(out: &mut Vec<u8>, fault: ShiftFault) -> Result<(), AllocError>
@@ -45,6 +43,5 @@ fn put_refusal(out: &mut Vec<u8>, fault: ShiftFault) -> Result<(), AllocError>
 {
     out.extend_from_slice(b"refused=")?;
     put_number(out, fault.number())?;
-    out.extend_from_slice(b"\n")?;
-    Ok(())
+    out.extend_from_slice(b"\n")
 }
