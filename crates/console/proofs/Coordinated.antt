@@ -1,5 +1,5 @@
 -- Coordinates of elements: how many there are, and that they tell elements apart.
-use Rattle.std.proofs.Common.{◌≡◌, ℕ, zero, suc, ◌^◌, List, [], ◌∷◌, ◌++◌, length, get_or, sym, refl, ap, ◌∙◌, ap₂, arith}
+use Rattle.std.proofs.Common.{◌≡◌, ℕ, zero, suc, ◌^◌, List, [], ◌∷◌, ◌++◌, length, sym, refl, ap, ◌∙◌, ap₂, arith}
 use native.Mathlib.Nat as N
 use Rattle.std.proofs.lemmas.List.{length-append}
 use Rattle.quadratic.specs.Signs.{coordinates}

@@ -1,10 +1,9 @@
-use Rattle.std.proofs.Common.{◌-◌, ◌∷◌, [], length, take, drop, vec_items, sym, true, false, arith, rules, length-append, length-drop, length-take, ◌≡◌, ◌<◌, ◌++◌, refl, ⊎_elim}
+use Rattle.std.proofs.Common.{◌-◌, ◌∷◌, [], length, take, drop, vec_items, sym, arith, length-append, length-drop, length-take, ◌<◌, ◌++◌, refl}
 use Rattle.std.proofs.lemmas.List.{append-nil}
-use Rattle.std.proofs.lemmas.Bool.{cases_lt}
 use Rattle.console.specs.Consoles.{waiting}
 use Rattle.console.specs.Replies.{response}
 use Rattle.console.specs.Sessions.{longest}
-use Rattle.console.proofs.Streaming.{continues_held, continues_too_long, continues_line, shorter}
+use Rattle.console.proofs.Streaming.{continues_too_long, continues_line, shorter}
 use Rattle.console.proofs.console.Console.feed_line.Goals as goal
 
 pub returns-then-not-has_room : goal.returns-then-not-has_room
