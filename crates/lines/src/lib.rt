@@ -16,7 +16,7 @@ mod numbers;
 mod tests;
 
 use crate::numbers::value_after;
-pub use crate::numbers::{Numbers, put_number, put_numbers};
+pub use crate::numbers::{Numbers, put, put_number, put_numbers};
 use std::alloc::{AllocError, Global};
 
 // The parts before and after the first `mark`, or None where there is no mark.

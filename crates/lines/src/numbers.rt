@@ -27,7 +27,7 @@ impl Display for Numbers<'_> {
 }
 
 // Appends what the value shows.
-fn put<T: Display>(out: &mut Vec<u8>, value: &T) -> Result<(), AllocError>
+pub fn put<T: Display>(out: &mut Vec<u8>, value: &T) -> Result<(), AllocError>
     ensures { OnOk result (IfSome (T.output value.now) (λ text. out.new.items ≡ out.old.items ++ text)) }
 {
     let text = value.to_string(*out.allocator())?;
