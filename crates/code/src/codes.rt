@@ -1,5 +1,6 @@
 // A code: a field, a generator, and the length of blocks.
-ghost use Rattle.std.specs.Prelude.{◌≡◌, ◌≤◌, length, take, MatchOption, MatchResult};
+ghost use Rattle.std.specs.Prelude.{◌≡◌, ◌≤◌, [], ◌∷◌, length, take, MatchOption, MatchResult};
+ghost use Rattle.algebra.specs.Powers.{power};
 ghost use Rattle.code.specs.Blocks.{Elements};
 ghost use Rattle.code.specs.Generator.{Generates};
 ghost use Rattle.code.specs.Refusals.{Misshapen};
@@ -9,7 +10,8 @@ use crate::generator::generates;
 use crate::symbols::first_non_element;
 use algebra::{Field, FieldFault};
 
-// The code over a field whose blocks have `length` symbols, and whose code words have a zero sum at each of alpha to alpha⁴.
+// The code over a field whose blocks have `length` symbols,
+// and whose code words have a zero sum at each of alpha to alpha⁴.
 #[derive(Drop)]
 pub struct Code<'a, F: Field> {
     pub field: &'a F,
@@ -21,7 +23,8 @@ pub struct Code<'a, F: Field> {
 impl<'a, F: Field> Code<'a, F> {
     // The code, if alpha generates codes of that length.
     pub fn new(field: &'a F, alpha: F::Elem, length: usize) -> Option<Code<'a, F>>
-        ensures { MatchOption result (Generates (F.Field.ops field.now) alpha length → ⊥) (λ c. (c.field.now ≡ field.now) × (c.alpha ≡ alpha) × (c.length ≡ length)) }
+        ensures { MatchOption result (Generates (F.Field.ops field.now) alpha length → ⊥)
+            (λ c. (c.field.now ≡ field.now) × (c.alpha ≡ alpha) × (c.length ≡ length)) }
     {
         if generates(field, alpha, length) {
             Some(Code {
@@ -34,10 +37,26 @@ impl<'a, F: Field> Code<'a, F> {
         }
     }
 
+    // Alpha, alpha², alpha³ and alpha⁴, at which the sums of a code word are zero.
+    pub fn points(&self) -> [F::Elem; 4]
+        ensures value { let o = F.Field.ops self.now.field.now in
+            let α = self.now.alpha in
+            result ≡ power o α 1 ∷ power o α 2 ∷ power o α 3 ∷ power o α 4 ∷ [] }
+        ensures inside { Elements (F.Field.ops self.now.field.now) result }
+    {
+        let second = self.field.mul(self.alpha, self.alpha);
+        let third = self.field.mul(self.alpha, second);
+        let fourth = self.field.mul(self.alpha, third);
+        [self.alpha, second, third, fourth]
+    }
+
     // Refuses a block of another length, and one of whose first `count` symbols is no element.
     pub fn check_shape(&self, block: &[F::Elem], count: usize) -> Result<(), CodeFault>
         requires { count ≤ self.now.length }
-        ensures { MatchResult result (λ _. (length block.now ≡ self.now.length) × Elements (F.Field.ops self.now.field.now) (take count block.now)) (Misshapen (F.Field.ops self.now.field.now) self.now.length block.now (take count block.now)) }
+        ensures { let o = F.Field.ops self.now.field.now in
+            MatchResult result
+            (λ _. (length block.now ≡ self.now.length) × Elements o (take count block.now))
+            (Misshapen o self.now.length block.now (take count block.now)) }
     {
         if block.len() != self.length {
             return Err(CodeFault::Length(block.len()));
