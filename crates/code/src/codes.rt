@@ -1,5 +1,6 @@
 // A code: a field, a generator, and the length of blocks.
-ghost use Rattle.std.specs.Prelude.{◌≡◌, ◌≤◌, [], ◌∷◌, length, take, MatchOption, MatchResult};
+ghost use Rattle.std.specs.Prelude.{◌≡◌, ◌≤◌, length, take, MatchOption, MatchResult};
+ghost use Rattle.algebra.specs.Operations.{In};
 ghost use Rattle.algebra.specs.Powers.{power};
 ghost use Rattle.code.specs.Blocks.{Elements};
 ghost use Rattle.code.specs.Generator.{Generates};
@@ -20,6 +21,15 @@ pub struct Code<'a, F: Field> {
     ghost generator: { Generates (F.Field.ops field.now) alpha length },
 }
 
+// Alpha, alpha², alpha³ and alpha⁴.
+#[derive(Clone, Copy)]
+pub struct Points<E> {
+    pub first: E,
+    pub second: E,
+    pub third: E,
+    pub fourth: E,
+}
+
 impl<'a, F: Field> Code<'a, F> {
     // The code, if alpha generates codes of that length.
     pub fn new(field: &'a F, alpha: F::Elem, length: usize) -> Option<Code<'a, F>>
@@ -37,17 +47,22 @@ impl<'a, F: Field> Code<'a, F> {
         }
     }
 
-    // Alpha, alpha², alpha³ and alpha⁴, at which the sums of a code word are zero.
-    pub fn points(&self) -> [F::Elem; 4]
+    // The points at which the sums of a code word are zero.
+    pub fn points(&self) -> Points<F::Elem>
         ensures value { let o = F.Field.ops self.now.field.now in
             let α = self.now.alpha in
-            result ≡ power o α 1 ∷ power o α 2 ∷ power o α 3 ∷ power o α 4 ∷ [] }
-        ensures inside { Elements (F.Field.ops self.now.field.now) result }
+            result ≡ record { first = power o α 1; second = power o α 2; third = power o α 3; fourth = power o α 4 } }
+        ensures inside { let o = F.Field.ops self.now.field.now in
+            In o result.first × In o result.second × In o result.third × In o result.fourth }
     {
         let second = self.field.mul(self.alpha, self.alpha);
         let third = self.field.mul(self.alpha, second);
-        let fourth = self.field.mul(self.alpha, third);
-        [self.alpha, second, third, fourth]
+        Points {
+            first: self.alpha,
+            second,
+            third,
+            fourth: self.field.mul(self.alpha, third),
+        }
     }
 
     // Refuses a block of another length, and one of whose first `count` symbols is no element.
