@@ -1,6 +1,5 @@
 -- A code word within two symbols shows in the sums as none, one or two wrong symbols, and none of these escapes the corrector.
 use Rattle.std.proofs.Common.{◌≡◌, ℕ, ◌+◌, ◌<◌, ◌≤◌, ◌⊎◌, List, [], ◌∷◌, length, sym, refl, ap, ◌∙◌, ap₂, inl, inr, ⊎_elim, arith}
-use native.Mathlib.Decide.{dec_le}
 use Rattle.std.specs.List.{AllByRecursion}
 use Rattle.algebra.specs.Operations.{Ops, minus}
 use Rattle.algebra.specs.Powers.{power}
@@ -136,11 +135,7 @@ module _ {E : Type 0} {o : Ops E} {α : E} {n : ℕ} {block : List E} {s : Syndr
 
   -- what neither case corrects has no code word near
   far : (word : List E) → (differ o block word ≤ 2 → ⊥) → 2 < differ o block word
-  far word n = go (dec_le (differ o block word) 2)
-    where
-      go : Dec (differ o block word ≤ 2) → 2 < differ o block word
-      go (yes h) = absurd (n h)
-      go (no h) = omega arith
+  far word n = omega arith
 
   pub far_from_one : (AllZero o s → ⊥) → det o s ≡ 𝟘 → ((k : ℕ) (e : E) → OneError o α (length block) s k e → ⊥)
       → (word : List E) → CodeWord₁ o α (length block) word → 2 < differ o block word

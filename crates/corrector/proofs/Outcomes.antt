@@ -16,6 +16,7 @@ use Rattle.corrector.specs.Errors.{AllZero, det, Corrects, NotOne, NotTwo}
 use Rattle.corrector.specs.RoundTrip.{damaged, Admissible, Restored}
 use Rattle.corrector.specs.declared.restoration.Damage.{Damage}
 use Rattle.corrector.specs.declared.syndromes.Syndromes.{Syndromes}
+use Rattle.corrector.proofs.Once.{refused_far}
 use Rattle.corrector.proofs.Received.{Received}
 use Rattle.corrector.proofs.Completeness.{far_from_one, far_from_two}
 
@@ -74,9 +75,7 @@ module _ {E : Type 0} {o : Ops E} (l : Arithmetic o) (α : E) (n : ℕ) (g : Gen
     swapped = differ_sym l arrived written arrived_in w.word.inside (arrived_long ∙ sym w.word.long)
 
     pub not_refused : (fault : CodeFault) → RefusesCorrecting o α n (damaged (damaged written first) second) fault → ⊥
-    not_refused (Length m) due = due.1 arrived_long
-    not_refused (Symbol k fault) due = due.1.here o.zero (All-get_or (In o) arrived due.1.index o.zero due.1.below arrived_in)
-    not_refused NoCodeWord due = let h = due.far written w.word in omega (arith, h, few, swapped)
+    not_refused fault due = refused_far o α n arrived fault due arrived_long arrived_in written w.word (omega (arith, few, swapped))
 
     pub restored : (after : List E) (c : ℕ) → Corrected o α n (damaged (damaged written first) second) after c → Restored o α n first second before after c
     restored after c k =

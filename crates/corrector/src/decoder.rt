@@ -18,6 +18,7 @@ pub struct Decoder<'a, F: Field> {
 }
 
 impl<'a, F: Field> Decoder<'a, F> {
+    // The decoder of a block, whose sums it takes.
     pub fn new(code: &'a Code<'a, F>, block: &[F::Elem]) -> Decoder<'a, F>
         requires { Elements (F.Field.ops code.now.field.now) block.now }
         ensures code { result.code.now ≡ code.now }
@@ -41,6 +42,7 @@ impl<'a, F: Field> Decoder<'a, F> {
         }
     }
 
+    // Whether the block is a code word, as far as its sums tell.
     pub fn all_zero(&self) -> bool
         ensures { Decides result (AllZero (F.Field.ops self.now.code.now.field.now) self.now.sums) }
     {
@@ -58,7 +60,7 @@ impl<'a, F: Field> Decoder<'a, F> {
         ensures value { result ≡ det (F.Field.ops self.now.code.now.field.now) self.now.sums }
         ensures inside { In (F.Field.ops self.now.code.now.field.now) result }
     {
-        let Syndromes { s1, s2, s3, s4: _ } = self.sums;
+        let Syndromes { s1, s2, s3, .. } = self.sums;
         cross_difference(self.code.field, s1, s2, s2, s3)
     }
 }

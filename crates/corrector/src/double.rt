@@ -26,7 +26,8 @@ fn solve_quadratic<F: RootedField>(
 ) -> Result<Locators<F::Elem>, CodeFault>
     requires sum { In (F.Field.ops field.now) u }
     requires product { In (F.Field.ops field.now) v }
-    ensures { MatchResult result (λ p. Pair (F.Field.ops field.now) u v p.x p.y) (NoPair (F.Field.ops field.now) u v) }
+    ensures { let o = F.Field.ops field.now in
+        MatchResult result (λ p. Pair o u v p.x p.y) (NoPair o u v) }
 {
     let twice = field.add(v, v);
     let discriminant = subtract(field, field.mul(u, u), field.add(twice, twice));
@@ -42,7 +43,7 @@ fn solve_quadratic<F: RootedField>(
 }
 
 impl<F: RootedField> Decoder<'_, F> {
-    // The two locators that the sums tell of.
+    // The locators of two wrong symbols, by their sum and their product.
     fn locators(&self) -> Result<Locators<F::Elem>, CodeFault>
         ensures { let o = F.Field.ops self.now.code.now.field.now in
             let u = locator_sum o self.now.sums in
@@ -65,12 +66,7 @@ impl<F: RootedField> Decoder<'_, F> {
         ensures inside { In (F.Field.ops self.now.code.now.field.now) result }
     {
         let field = self.code.field;
-        let Syndromes {
-            s1,
-            s2,
-            s3: _,
-            s4: _,
-        } = self.sums;
+        let Syndromes { s1, s2, .. } = self.sums;
         divide(
             field,
             subtract(field, s2, field.mul(y, s1)),
@@ -82,7 +78,8 @@ impl<F: RootedField> Decoder<'_, F> {
     pub fn correct_two(&self, block: &mut [F::Elem]) -> Result<usize, CodeFault>
         requires long { length block.old ≡ self.now.code.now.length }
         requires elements { Elements (F.Field.ops self.now.code.now.field.now) block.old }
-        requires sums { SumsOf (F.Field.ops self.now.code.now.field.now) self.now.code.now.alpha block.old self.now.sums }
+        requires sums { let o = F.Field.ops self.now.code.now.field.now in
+            SumsOf o self.now.code.now.alpha block.old self.now.sums }
         requires nonzero { let o = F.Field.ops self.now.code.now.field.now in
             det o self.now.sums ≢ o.zero }
         ensures { let o = F.Field.ops self.now.code.now.field.now in

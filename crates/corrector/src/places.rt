@@ -21,7 +21,7 @@ pub fn find_place<F: Field>(code: &Code<'_, F>, x: F::Elem) -> Option<usize>
     let n = code.length;
     let mut k = 0;
     let mut locator = field.one();
-    // A loop, so that the place leaves it by `break`, and the power of alpha runs along.
+    // The power of alpha runs along with the place, which leaves the loop by `break`.
     loop {
         if k == n {
             break None;

@@ -33,7 +33,8 @@ impl<F: Field> Decoder<'_, F> {
     pub fn correct_one(&self, block: &mut [F::Elem]) -> Result<usize, CodeFault>
         requires long { length block.old ≡ self.now.code.now.length }
         requires elements { Elements (F.Field.ops self.now.code.now.field.now) block.old }
-        requires sums { SumsOf (F.Field.ops self.now.code.now.field.now) self.now.code.now.alpha block.old self.now.sums }
+        requires sums { let o = F.Field.ops self.now.code.now.field.now in
+            SumsOf o self.now.code.now.alpha block.old self.now.sums }
         ensures { let o = F.Field.ops self.now.code.now.field.now in
             let α = self.now.code.now.alpha in
             MatchResult result
