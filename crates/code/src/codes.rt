@@ -22,6 +22,7 @@ pub struct Code<'a, F: Field> {
 }
 
 // Alpha, alpha², alpha³ and alpha⁴.
+// No array: of elements whose type is not known, it would ask each caller to show that four of them fit in memory.
 #[derive(Clone, Copy)]
 pub struct Points<E> {
     pub first: E,
@@ -51,7 +52,12 @@ impl<'a, F: Field> Code<'a, F> {
     pub fn points(&self) -> Points<F::Elem>
         ensures value { let o = F.Field.ops self.now.field.now in
             let α = self.now.alpha in
-            result ≡ record { first = power o α 1; second = power o α 2; third = power o α 3; fourth = power o α 4 } }
+            result ≡ record {
+              first = power o α 1;
+              second = power o α 2;
+              third = power o α 3;
+              fourth = power o α 4;
+            } }
         ensures inside { let o = F.Field.ops self.now.field.now in
             In o result.first × In o result.second × In o result.third × In o result.fourth }
     {

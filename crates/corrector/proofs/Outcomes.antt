@@ -1,7 +1,7 @@
 -- From the corrector's parts to its contract, and the round trip.
 use Rattle.std.proofs.Common.{◌≡◌, ℕ, ◌-◌, ◌<◌, ◌≤◌, List, length, sym, ap, ◌∙◌, subst, arith, length-set, Result, MatchResult}
 use Rattle.std.proofs.lemmas.Result.{MatchResult-weaker}
-use Rattle.std.proofs.ByRecursion.{All-set, All-get_or}
+use Rattle.std.proofs.ByRecursion.{All-set}
 use Rattle.algebra.specs.Operations.{Ops, In}
 use Rattle.algebra.specs.Laws.{Arithmetic}
 use Rattle.code.specs.Blocks.{Elements, CodeWord₁, differ}
@@ -10,7 +10,7 @@ use Rattle.code.proofs.Counting.{differ_self, differ_sym, differ-set-≤}
 use Rattle.code.proofs.MinimumDistance.{equal_near, others_far}
 use Rattle.writer.specs.Writing.{Written}
 use Rattle.code.specs.declared.faults.CodeFault.{CodeFault}
-use Rattle.code.specs.declared.faults.CodeFault.TheVariants.{Length, Symbol, NoCodeWord}
+use Rattle.code.specs.declared.faults.CodeFault.TheVariants.{NoCodeWord}
 use Rattle.corrector.specs.Correction.{Corrected, Uncorrected, RefusesCorrecting}
 use Rattle.corrector.specs.Errors.{AllZero, det, Corrects, NotOne, NotTwo}
 use Rattle.corrector.specs.RoundTrip.{damaged, Admissible, Restored}

@@ -2,7 +2,8 @@
 ghost use Rattle.std.specs.Prelude.{◌≡◌, length, MatchResult, ◌≢◌};
 ghost use Rattle.algebra.specs.Operations.{In};
 ghost use Rattle.code.specs.Blocks.{Elements};
-ghost use Rattle.corrector.specs.Errors.{SumsOf, Pair, NoPair, det, locator_sum, locator_product, magnitude, Corrects, NotTwo};
+ghost use Rattle.corrector.specs.Errors.{SumsOf, Corrects, NotTwo};
+ghost use Rattle.corrector.specs.Errors.{Pair, NoPair, det, locator_sum, locator_product, magnitude};
 
 use crate::arithmetic::{cross_difference, divide, subtract};
 use crate::decoder::Decoder;

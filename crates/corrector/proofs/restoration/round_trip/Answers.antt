@@ -1,8 +1,5 @@
 -- The damaged block is within two symbols of the written one, which is the only code word there.
-use Rattle.std.proofs.Common.{◌≡◌, ap, ◌∙◌, subst, MatchResult}
 use Rattle.std.proofs.lemmas.Result.{MatchResult-weaker}
-use Rattle.corrector.specs.Correction.{Corrected, Uncorrected}
-use Rattle.corrector.specs.RoundTrip.{damaged}
 use Rattle.corrector.proofs.Outcomes.{restored, not_refused}
 use Rattle.corrector.proofs.restoration.round_trip.Goals as goal
 
