@@ -4,13 +4,10 @@ use Rattle.algebra.specs.Operations.{Ops, In}
 use Rattle.algebra.specs.Laws.{Arithmetic}
 use Rattle.code.specs.Blocks.{Elements, differ}
 
-pub true_not_false : {A : Type 0} → true ≡ false → A
-true_not_false e = absurd (let z : ◌≡◌ {A = ℕ} 0 1 = cc in omega arith)
-
 -- one place more, of three blocks
 triangle_place : (b c d : Bool) (x y z : ℕ) → (b ≡ true → c ≡ true → d ≡ true) → z ≤ x + y → cond d z (suc z) ≤ cond b x (suc x) + cond c y (suc y)
 triangle_place true true true x y z q h = omega arith
-triangle_place true true false x y z q h = true_not_false (sym (q refl refl))
+triangle_place true true false x y z q h = cc (q refl refl)
 triangle_place true false true x y z q h = omega arith
 triangle_place true false false x y z q h = omega arith
 triangle_place false true true x y z q h = omega arith
@@ -43,7 +40,7 @@ module _ {E : Type 0} {o : Ops E} (l : Arithmetic o) where
       go false e = refl
 
   pub same_not : (a b : E) → In o a → o.same a b ≡ false → a ≡ b → ⊥
-  same_not a b ha e q = true_not_false (sym (l.is_same a ha) ∙ ap (o.same a) q ∙ e)
+  same_not a b ha e q = cc (l.is_same a ha, ap (o.same a) q)
 
   same_sym : (a b : E) → In o a → In o b → o.same a b ≡ o.same b a
   same_sym a b ha hb = go (o.same a b) refl

@@ -1,6 +1,5 @@
 -- Different code words differ in at least five places, so at most one is within two of a block.
 use Rattle.std.proofs.Common.{◌≡◌, ℕ, ◌+◌, ◌<◌, ◌≤◌, List, [], ◌∷◌, length, sym, ◌∙◌, ap₂, arith}
-use native.Mathlib.Decide.{dec_le}
 use Rattle.std.specs.List.{AllByRecursion}
 use Rattle.algebra.specs.Operations.{Ops, minus}
 use Rattle.algebra.specs.Laws.{Arithmetic}
@@ -32,11 +31,9 @@ module _ {E : Type 0} {o : Ops E} (l : Arithmetic o) where
       (apart_terms l α n g b c hb hc (omega (arith, wb.long))) zeros)
 
   pub distance_five : DistanceFive o
-  distance_five first α n b c g wb wc other = go (dec_le (differ o b c) 4)
-    where
-      go : Dec (differ o b c ≤ 4) → 5 ≤ differ o b c
-      go (yes h) = absurd (other (equal_words first α n b c g wb wc h))
-      go (no h) = omega arith
+  distance_five first α n b c g wb wc other =
+      let few : differ o b c ≤ 4 → ⊥ = λ h. other (equal_words first α n b c g wb wc h) in
+      omega arith
 
   -- two code words within two symbols of a block are one
   pub equal_near : (first : ℕ) (α : E) (n : ℕ) (block b c : List E) → Generates o α n → length block ≡ n → Elements o block
@@ -48,8 +45,6 @@ module _ {E : Type 0} {o : Ops E} (l : Arithmetic o) where
   -- so every other code word is further from a block than one that is near
   pub others_far : (first : ℕ) (α : E) (n : ℕ) (block b c : List E) → Generates o α n → length block ≡ n → Elements o block
       → CodeWord o first α n b → CodeWord o first α n c → differ o block b ≤ 2 → (c ≡ b → ⊥) → 2 < differ o block c
-  others_far first α n block b c g long hs wb wc nb other = go (dec_le (differ o block c) 2)
-    where
-      go : Dec (differ o block c ≤ 2) → 2 < differ o block c
-      go (yes h) = absurd (other (equal_near first α n block c b g long hs wc wb h nb))
-      go (no h) = omega arith
+  others_far first α n block b c g long hs wb wc nb other =
+      let near : differ o block c ≤ 2 → ⊥ = λ h. other (equal_near first α n block c b g long hs wc wb h nb) in
+      omega arith

@@ -1,5 +1,5 @@
 -- Generators: elements whose powers tell the places of a block apart.
-use Rattle.std.specs.Prelude.{◌≡◌, ℕ, ◌<◌, ◌≤◌, ◌≢◌}
+use Rattle.std.specs.Prelude.{ℕ, ◌<◌, ◌≤◌, ◌≢◌}
 use Rattle.algebra.specs.Operations.{Ops, In}
 use Rattle.algebra.specs.Powers.{power}
 

@@ -9,7 +9,7 @@ mod numbers;
 mod symbols;
 mod syndromes;
 
-pub use codes::Code;
+pub use codes::{Code, Points};
 pub use distance::distance_five;
 pub use faults::CodeFault;
 pub use generator::generates;

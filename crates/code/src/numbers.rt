@@ -11,7 +11,7 @@ impl CodeFault {
     {
         match self {
             CodeFault::Length(_) => 11,
-            CodeFault::Symbol { place: _, fault: _ } => 12,
+            CodeFault::Symbol { .. } => 12,
             CodeFault::NoCodeWord => 13,
         }
     }
@@ -20,9 +20,8 @@ impl CodeFault {
         ensures { result ≡ code_layer self }
     {
         match self {
-            CodeFault::Length(_)
-            | CodeFault::Symbol { place: _, fault: _ }
-            | CodeFault::NoCodeWord => Layer::Corrector,
+            CodeFault::Length(_) | CodeFault::Symbol { .. } | CodeFault::NoCodeWord =>
+                Layer::Corrector,
         }
     }
 }

@@ -7,12 +7,9 @@ use algebra::Field;
 
 // The place of the first symbol sent that is no element; absent exactly when all are.
 pub fn first_non_element<F: Field>(field: &F, block: &[F::Elem]) -> Option<usize>
-    ensures { MatchOption result (Elements (F.Field.ops field.now) block.now) (FirstNonElement (F.Field.ops field.now) (length block.now) block.now) }
+    ensures { let o = F.Field.ops field.now in
+        MatchOption result (Elements o block.now) (FirstNonElement o (length block.now) block.now) }
 {
-    for (i, symbol) in block.iter().enumerate() {
-        if !field.contains(*symbol) {
-            return Some(block.len() - 1 - i);
-        }
-    }
-    None
+    let index = block.iter().position(|symbol| !field.contains(*symbol))?;
+    Some(block.len() - 1 - index)
 }

@@ -10,7 +10,8 @@ use algebra::Field;
 pub fn syndrome<F: Field>(field: &F, x: F::Elem, block: &[F::Elem]) -> F::Elem
     requires point { In (F.Field.ops field.now) x }
     requires elements { Elements (F.Field.ops field.now) block.now }
-    ensures value { (α : F.Elem) (j : ℕ) → In (F.Field.ops field.now) α → x ≡ power (F.Field.ops field.now) α j → result ≡ Sum (F.Field.ops field.now) α j block.now }
+    ensures value { let o = F.Field.ops field.now in
+        (α : F.Elem) (j : ℕ) → In o α → x ≡ power o α j → result ≡ Sum o α j block.now }
     ensures inside { In (F.Field.ops field.now) result }
 {
     let mut sum = field.zero();

@@ -1,26 +1,29 @@
 -- A code word within two symbols shows in the sums as none, one or two wrong symbols, and none of these escapes the corrector.
 use Rattle.std.proofs.Common.{◌≡◌, ℕ, ◌+◌, ◌<◌, ◌≤◌, ◌⊎◌, List, [], ◌∷◌, length, sym, refl, ap, ◌∙◌, ap₂, inl, inr, ⊎_elim, arith}
-use native.Mathlib.Decide.{dec_le}
 use Rattle.std.specs.List.{AllByRecursion}
 use Rattle.algebra.specs.Operations.{Ops, minus}
-use Rattle.algebra.specs.Laws.{Arithmetic}
 use Rattle.algebra.specs.Powers.{power}
 use Rattle.algebra.specs.Identities.{two_terms}
 use Rattle.algebra.proofs.Elements.{by_ring, reads}
-use Rattle.code.specs.Blocks.{Elements, Sum, CodeWord₁, differ}
+use Rattle.code.specs.Blocks.{Sum, CodeWord₁, differ}
 use Rattle.code.specs.Generator.{Generates}
 use Rattle.code.proofs.Powers.{power_in}
 use Rattle.code.proofs.Polynomials.{sum_in}
 use Rattle.code.proofs.Elimination.{Term, weighted, Apart}
 use Rattle.code.proofs.Differences.{terms, length_terms, weighted_terms, nonzero_terms, Placed, placed_terms, apart_terms}
-use Rattle.corrector.specs.Errors.{SumsOf, Inside, AllZero, Ratio, det, Pair, OneError, TwoErrors}
+use Rattle.corrector.specs.Errors.{AllZero, Ratio, det, locator_sum, locator_product, Pair, OneError, TwoErrors}
 use Rattle.corrector.specs.declared.syndromes.Syndromes.{Syndromes}
+use Rattle.corrector.proofs.Received.{Received, generates_block, of_code}
 use Rattle.corrector.proofs.Locators.{pair_unique}
 use Rattle.corrector.proofs.OneWrong.{ratio_unique, one_ratio, one_first, one_det}
-use Rattle.corrector.proofs.TwoWrong.{locator_sum, locator_product, two_pair, two_det}
+use Rattle.corrector.proofs.TwoWrong.{two_pair, two_det}
 
-module _ {E : Type 0} {o : Ops E} (l : Arithmetic o) (α : E) (block : List E) (g : Generates o α (length block)) (hs : Elements o block)
-    (s : Syndromes E) (is : SumsOf o α block s) (hi : Inside o s) where
+module _ {E : Type 0} {o : Ops E} {α : E} {n : ℕ} {block : List E} {s : Syndromes E} (r : Received o α n block s) where
+  open r use {laws as l, elements as hs, sums as is, inside as hi}
+
+  abbrev g : Generates o α (length block)
+  g = generates_block r
+
   open o use {zero as 𝟘, one as 𝟙, add as ◌⊹◌, mul as ◌·◌}
 
   infixl 65 ◌⊹◌
@@ -105,9 +108,9 @@ module _ {E : Type 0} {o : Ops E} (l : Arithmetic o) (α : E) (block : List E) (
   pub no_ratio : ((x : E) → Ratio o s x → ⊥) → (k : ℕ) (e : E) → OneError o α (length block) s k e → ⊥
   no_ratio none k e w = none _ (one_ratio l s hi α (length block) g k e w)
 
-  pub no_place : (x : E) → Ratio o s x → ((k : ℕ) → k < length block → power o α k ≡ x → ⊥) → (k : ℕ) (e : E) → OneError o α (length block) s k e → ⊥
-  no_place x r none k e w =
-      none k w.below (ratio_unique l s hi (power o α k) x (one_ratio l s hi α (length block) g k e w) r (one_first l s hi α (length block) g k e w))
+  pub no_place : (x : E) → Ratio o s x → ((k : ℕ) → k < n → power o α k ≡ x → ⊥) → (k : ℕ) (e : E) → OneError o α (length block) s k e → ⊥
+  no_place x ratio none k e w =
+      none k (of_code r k w.below) (ratio_unique l s hi (power o α k) x (one_ratio l s hi α (length block) g k e w) ratio (one_first l s hi α (length block) g k e w))
 
   -- refusals of two wrong symbols
   pub no_pair : ((x y : E) → Pair o (locator_sum o s) (locator_product o s) x y → ⊥) → (i : ℕ) (d : E) (k : ℕ) (e : E) → TwoErrors o α (length block) s i d k e → ⊥
@@ -122,21 +125,17 @@ module _ {E : Type 0} {o : Ops E} (l : Arithmetic o) (α : E) (block : List E) (
     no_double q i d k e w =
         ⊎_elim (λ m. w.apart (sym m.0 ∙ q ∙ m.1)) (λ m. w.apart (sym m.1 ∙ sym q ∙ m.0)) (matched i d k e w)
 
-    pub no_left : ((k : ℕ) → k < length block → power o α k ≡ x → ⊥) → (i : ℕ) (d : E) (k : ℕ) (e : E) → TwoErrors o α (length block) s i d k e → ⊥
+    pub no_left : ((k : ℕ) → k < n → power o α k ≡ x → ⊥) → (i : ℕ) (d : E) (k : ℕ) (e : E) → TwoErrors o α (length block) s i d k e → ⊥
     no_left none i d k e w =
-        ⊎_elim (λ m. none i w.i_below (sym m.0)) (λ m. none k w.k_below (sym m.0)) (matched i d k e w)
+        ⊎_elim (λ m. none i (of_code r i w.i_below) (sym m.0)) (λ m. none k (of_code r k w.k_below) (sym m.0)) (matched i d k e w)
 
-    pub no_right : ((k : ℕ) → k < length block → power o α k ≡ y → ⊥) → (i : ℕ) (d : E) (k : ℕ) (e : E) → TwoErrors o α (length block) s i d k e → ⊥
+    pub no_right : ((k : ℕ) → k < n → power o α k ≡ y → ⊥) → (i : ℕ) (d : E) (k : ℕ) (e : E) → TwoErrors o α (length block) s i d k e → ⊥
     no_right none i d k e w =
-        ⊎_elim (λ m. none k w.k_below (sym m.1)) (λ m. none i w.i_below (sym m.1)) (matched i d k e w)
+        ⊎_elim (λ m. none k (of_code r k w.k_below) (sym m.1)) (λ m. none i (of_code r i w.i_below) (sym m.1)) (matched i d k e w)
 
   -- what neither case corrects has no code word near
   far : (word : List E) → (differ o block word ≤ 2 → ⊥) → 2 < differ o block word
-  far word n = go (dec_le (differ o block word) 2)
-    where
-      go : Dec (differ o block word ≤ 2) → 2 < differ o block word
-      go (yes h) = absurd (n h)
-      go (no h) = omega arith
+  far word n = omega arith
 
   pub far_from_one : (AllZero o s → ⊥) → det o s ≡ 𝟘 → ((k : ℕ) (e : E) → OneError o α (length block) s k e → ⊥)
       → (word : List E) → CodeWord₁ o α (length block) word → 2 < differ o block word

@@ -1,3 +1,4 @@
+pub mod Received
 pub mod Quotients
 pub mod Locators
 pub mod OneWrong

@@ -12,10 +12,6 @@ use Rattle.corrector.specs.Errors.{Pair}
 abbrev pub discriminant : {E : Type 0} → Ops E → E → E → E
 discriminant o u v = minus o (o.mul u u) (o.add (o.add v v) (o.add v v))
 
--- the same sum and product under other names
-pub pair_of : {E : Type 0} {o : Ops E} {u v u' v' x y : E} → u' ≡ u → v' ≡ v → Pair o u' v' x y → Pair o u v x y
-pair_of p q r = record { left = r.left; right = r.right; sum = r.sum ∙ p; product = r.product ∙ q }
-
 module _ {E : Type 0} {o : Ops E} (l : Arithmetic o) where
   open o use {zero as 𝟘, one as 𝟙, add as ◌⊹◌, mul as ◌·◌, neg, inv}
 

@@ -9,16 +9,9 @@ use Rattle.algebra.proofs.Products.{other_zero, minus_zero}
 use Rattle.algebra.proofs.Solved.{determinants_of_two_terms}
 use Rattle.code.specs.Generator.{Generates}
 use Rattle.code.proofs.Powers.{minus_in, power_in, power_nonzero, product_nonzero}
-use Rattle.corrector.specs.Errors.{Inside, cross, det, Pair, TwoErrors, magnitude}
+use Rattle.corrector.specs.Errors.{Inside, cross, det, locator_sum, locator_product, Pair, TwoErrors, magnitude}
 use Rattle.corrector.specs.declared.syndromes.Syndromes.{Syndromes}
 use Rattle.corrector.proofs.Quotients.{cancel, quotient_unique}
-
--- u = (S₁S₄ - S₂S₃) / D and v = (S₂S₄ - S₃²) / D
-abbrev pub locator_sum : {E : Type 0} → Ops E → Syndromes E → E
-locator_sum o s = o.mul (cross o s.s1 s.s2 s.s3 s.s4) (o.inv (det o s))
-
-abbrev pub locator_product : {E : Type 0} → Ops E → Syndromes E → E
-locator_product o s = o.mul (cross o s.s2 s.s3 s.s3 s.s4) (o.inv (det o s))
 
 module _ {E : Type 0} {o : Ops E} (l : Arithmetic o) (s : Syndromes E) (hs : Inside o s) where
   open o use {zero as 𝟘, one as 𝟙, add as ◌⊹◌, mul as ◌·◌, neg, inv}

@@ -39,6 +39,14 @@ cross o a b c d = minus o (o.mul a d) (o.mul b c)
 abbrev pub det : {E : Type 0} → Ops E → Syndromes E → E
 det o s = cross o s.s1 s.s2 s.s2 s.s3
 
+-- (S₁S₄ - S₂S₃) / (S₁S₃ - S₂²)
+abbrev pub locator_sum : {E : Type 0} → Ops E → Syndromes E → E
+locator_sum o s = o.mul (cross o s.s1 s.s2 s.s3 s.s4) (o.inv (det o s))
+
+-- (S₂S₄ - S₃²) / (S₁S₃ - S₂²)
+abbrev pub locator_product : {E : Type 0} → Ops E → Syndromes E → E
+locator_product o s = o.mul (cross o s.s2 s.s3 s.s3 s.s4) (o.inv (det o s))
+
 -- x and y have the sum u and the product v
 pub record Pair {E : Type 0} (o : Ops E) (u v x y : E) : Type 0 where
   pub left : In o x

@@ -15,7 +15,7 @@ pub fn subtract<F: Field>(field: &F, a: F::Elem, b: F::Elem) -> F::Elem
 
 pub fn divide<F: Field>(field: &F, a: F::Elem, b: F::Elem) -> F::Elem
     requires { In (F.Field.ops field.now) a × In (F.Field.ops field.now) b }
-    ensures value { result ≡ (F.Field.ops field.now).mul a ((F.Field.ops field.now).inv b) }
+    ensures value { let o = F.Field.ops field.now in result ≡ o.mul a (o.inv b) }
     ensures inside { In (F.Field.ops field.now) result }
 {
     field.mul(a, field.inv(b))
@@ -29,7 +29,7 @@ pub fn cross_difference<F: Field>(
     c: F::Elem,
     d: F::Elem,
 ) -> F::Elem
-    requires { In (F.Field.ops field.now) a × In (F.Field.ops field.now) b × In (F.Field.ops field.now) c × In (F.Field.ops field.now) d }
+    requires { let o = F.Field.ops field.now in In o a × In o b × In o c × In o d }
     ensures value { result ≡ cross (F.Field.ops field.now) a b c d }
     ensures inside { In (F.Field.ops field.now) result }
 {

@@ -2,10 +2,7 @@
 ghost use Rattle.std.specs.Prelude.{MatchResult};
 ghost use Rattle.corrector.specs.Correction.{Corrected, Uncorrected};
 
-use crate::arithmetic::cross_difference;
-use crate::double::correct_two;
-use crate::single::correct_one;
-use crate::syndromes::{all_zero, syndromes_of};
+use crate::decoder::Decoder;
 use algebra::{Field, RootedField};
 use code::{Code, CodeFault};
 
@@ -14,18 +11,20 @@ pub fn correct<F: RootedField>(
     code: &Code<'_, F>,
     block: &mut [F::Elem],
 ) -> Result<usize, CodeFault>
-    ensures { MatchResult result (Corrected (F.Field.ops code.now.field.now) code.now.alpha code.now.length block.old block.new) (Uncorrected (F.Field.ops code.now.field.now) code.now.alpha code.now.length block.old block.new) }
+    ensures { let o = F.Field.ops code.now.field.now in
+        MatchResult result
+        (Corrected o code.now.alpha code.now.length block.old block.new)
+        (Uncorrected o code.now.alpha code.now.length block.old block.new) }
 {
     code.check_shape(block, code.length)?;
-    let field = code.field;
-    let s = syndromes_of(field, code.alpha, block);
-    if all_zero(field, s) {
+    let decoder = Decoder::new(code, block);
+    if decoder.all_zero() {
         return Ok(0);
     }
-    let d = cross_difference(field, s.s1, s.s2, s.s2, s.s3);
-    if field.equal(d, field.zero()) {
-        correct_one(field, code.alpha, block, s)
+    let field = code.field;
+    if field.equal(decoder.determinant(), field.zero()) {
+        decoder.correct_one(block)
     } else {
-        correct_two(field, code.alpha, block, s, d)
+        decoder.correct_two(block)
     }
 }

@@ -2,10 +2,11 @@
 ghost use Rattle.std.specs.Prelude.{◌≡◌, length, MatchResult, ◌≢◌};
 ghost use Rattle.algebra.specs.Operations.{In};
 ghost use Rattle.code.specs.Blocks.{Elements};
-ghost use Rattle.code.specs.Generator.{Generates};
-ghost use Rattle.corrector.specs.Errors.{SumsOf, Inside, Pair, NoPair, det, magnitude, Corrects, NotTwo};
+ghost use Rattle.corrector.specs.Errors.{SumsOf, Corrects, NotTwo};
+ghost use Rattle.corrector.specs.Errors.{Pair, NoPair, det, locator_sum, locator_product, magnitude};
 
 use crate::arithmetic::{cross_difference, divide, subtract};
+use crate::decoder::Decoder;
 use crate::places::{amend, find_place};
 use crate::syndromes::Syndromes;
 use algebra::{Field, RootedField};
@@ -26,7 +27,8 @@ fn solve_quadratic<F: RootedField>(
 ) -> Result<Locators<F::Elem>, CodeFault>
     requires sum { In (F.Field.ops field.now) u }
     requires product { In (F.Field.ops field.now) v }
-    ensures { MatchResult result (λ p. Pair (F.Field.ops field.now) u v p.x p.y) (NoPair (F.Field.ops field.now) u v) }
+    ensures { let o = F.Field.ops field.now in
+        MatchResult result (λ p. Pair o u v p.x p.y) (NoPair o u v) }
 {
     let twice = field.add(v, v);
     let discriminant = subtract(field, field.mul(u, u), field.add(twice, twice));
@@ -41,50 +43,65 @@ fn solve_quadratic<F: RootedField>(
     })
 }
 
-// What is wrong at the place of x, beside a wrong symbol at that of y.
-fn error_magnitude<F: Field>(field: &F, s: Syndromes<F::Elem>, x: F::Elem, y: F::Elem) -> F::Elem
-    requires { Inside (F.Field.ops field.now) s × In (F.Field.ops field.now) x × In (F.Field.ops field.now) y }
-    ensures value { result ≡ magnitude (F.Field.ops field.now) s x y }
-    ensures inside { In (F.Field.ops field.now) result }
-{
-    divide(
-        field,
-        subtract(field, s.s2, field.mul(y, s.s1)),
-        field.mul(x, subtract(field, x, y)),
-    )
-}
-
-// Corrects two wrong symbols, where the determinant S₁S₃ - S₂² is d.
-pub fn correct_two<F: RootedField>(
-    field: &F,
-    alpha: F::Elem,
-    block: &mut [F::Elem],
-    s: Syndromes<F::Elem>,
-    d: F::Elem,
-) -> Result<usize, CodeFault>
-    requires generator { Generates (F.Field.ops field.now) alpha (length block.old) }
-    requires elements { Elements (F.Field.ops field.now) block.old }
-    requires value { SumsOf (F.Field.ops field.now) alpha block.old s }
-    requires inside { Inside (F.Field.ops field.now) s }
-    requires determinant { d ≡ det (F.Field.ops field.now) s }
-    requires member { In (F.Field.ops field.now) d }
-    requires nonzero { d ≢ (F.Field.ops field.now).zero }
-    ensures { MatchResult result (Corrects (F.Field.ops field.now) alpha block.old block.new) (NotTwo (F.Field.ops field.now) alpha s block.old block.new) }
-{
-    let inverse = field.inv(d);
-    let u = field.mul(cross_difference(field, s.s1, s.s2, s.s3, s.s4), inverse);
-    let v = field.mul(cross_difference(field, s.s2, s.s3, s.s3, s.s4), inverse);
-    let Locators { x, y } = solve_quadratic(field, u, v)?;
-    if field.equal(x, y) {
-        return Err(CodeFault::NoCodeWord);
+impl<F: RootedField> Decoder<'_, F> {
+    // The locators of two wrong symbols, by their sum and their product.
+    fn locators(&self) -> Result<Locators<F::Elem>, CodeFault>
+        ensures { let o = F.Field.ops self.now.code.now.field.now in
+            let u = locator_sum o self.now.sums in
+            let v = locator_product o self.now.sums in
+            MatchResult result (λ p. Pair o u v p.x p.y) (NoPair o u v) }
+    {
+        let field = self.code.field;
+        let Syndromes { s1, s2, s3, s4 } = self.sums;
+        let inverse = field.inv(self.determinant());
+        let u = field.mul(cross_difference(field, s1, s2, s3, s4), inverse);
+        let v = field.mul(cross_difference(field, s2, s3, s3, s4), inverse);
+        solve_quadratic(field, u, v)
     }
-    let Some(i) = find_place(field, alpha, block.len(), x) else {
-        return Err(CodeFault::NoCodeWord);
-    };
-    let Some(k) = find_place(field, alpha, block.len(), y) else {
-        return Err(CodeFault::NoCodeWord);
-    };
-    amend(field, block, i, error_magnitude(field, s, x, y));
-    amend(field, block, k, error_magnitude(field, s, y, x));
-    Ok(2)
+
+    // What is wrong at the place of x, beside a wrong symbol at that of y.
+    fn error_magnitude(&self, x: F::Elem, y: F::Elem) -> F::Elem
+        requires left { In (F.Field.ops self.now.code.now.field.now) x }
+        requires right { In (F.Field.ops self.now.code.now.field.now) y }
+        ensures value { result ≡ magnitude (F.Field.ops self.now.code.now.field.now) self.now.sums x y }
+        ensures inside { In (F.Field.ops self.now.code.now.field.now) result }
+    {
+        let field = self.code.field;
+        let Syndromes { s1, s2, .. } = self.sums;
+        divide(
+            field,
+            subtract(field, s2, field.mul(y, s1)),
+            field.mul(x, subtract(field, x, y)),
+        )
+    }
+
+    // Corrects two wrong symbols.
+    pub fn correct_two(&self, block: &mut [F::Elem]) -> Result<usize, CodeFault>
+        requires long { length block.old ≡ self.now.code.now.length }
+        requires elements { Elements (F.Field.ops self.now.code.now.field.now) block.old }
+        requires sums { let o = F.Field.ops self.now.code.now.field.now in
+            SumsOf o self.now.code.now.alpha block.old self.now.sums }
+        requires nonzero { let o = F.Field.ops self.now.code.now.field.now in
+            det o self.now.sums ≢ o.zero }
+        ensures { let o = F.Field.ops self.now.code.now.field.now in
+            let α = self.now.code.now.alpha in
+            MatchResult result
+            (Corrects o α block.old block.new)
+            (NotTwo o α self.now.sums block.old block.new) }
+    {
+        let field = self.code.field;
+        let Locators { x, y } = self.locators()?;
+        if field.equal(x, y) {
+            return Err(CodeFault::NoCodeWord);
+        }
+        let Some(i) = find_place(self.code, x) else {
+            return Err(CodeFault::NoCodeWord);
+        };
+        let Some(k) = find_place(self.code, y) else {
+            return Err(CodeFault::NoCodeWord);
+        };
+        amend(field, block, i, self.error_magnitude(x, y));
+        amend(field, block, k, self.error_magnitude(y, x));
+        Ok(2)
+    }
 }

@@ -3,6 +3,7 @@
 
 mod arithmetic;
 mod corrector;
+mod decoder;
 mod double;
 mod places;
 mod restoration;

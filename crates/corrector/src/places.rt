@@ -7,15 +7,21 @@ ghost use Rattle.corrector.specs.Errors.{FirstPlace, amended};
 
 use crate::arithmetic::subtract;
 use algebra::Field;
+use code::Code;
 
-// The first place below n whose power of alpha is x.
-pub fn find_place<F: Field>(field: &F, alpha: F::Elem, n: usize, x: F::Elem) -> Option<usize>
-    requires generator { In (F.Field.ops field.now) alpha }
-    requires value { In (F.Field.ops field.now) x }
-    ensures { MatchOption result ((k : ℕ) → k < n → power (F.Field.ops field.now) alpha k ≢ x) (FirstPlace (F.Field.ops field.now) alpha n x) }
+// The first place of a block whose power of alpha is x.
+pub fn find_place<F: Field>(code: &Code<'_, F>, x: F::Elem) -> Option<usize>
+    requires { In (F.Field.ops code.now.field.now) x }
+    ensures { let o = F.Field.ops code.now.field.now in
+        MatchOption result
+        ((k : ℕ) → k < code.now.length → power o code.now.alpha k ≢ x)
+        (FirstPlace o code.now.alpha code.now.length x) }
 {
+    let field = code.field;
+    let n = code.length;
     let mut k = 0;
     let mut locator = field.one();
+    // The power of alpha runs along with the place, which leaves the loop by `break`.
     loop {
         if k == n {
             break None;
@@ -23,7 +29,7 @@ pub fn find_place<F: Field>(field: &F, alpha: F::Elem, n: usize, x: F::Elem) -> 
         if field.equal(locator, x) {
             break Some(k);
         }
-        locator = field.mul(alpha, locator);
+        locator = field.mul(code.alpha, locator);
         k += 1;
     }
 }

@@ -33,7 +33,10 @@ pub fn round_trip<F: RootedField>(
     requires long { 5 ≤ code.now.length }
     requires first { Admissible (F.Field.ops code.now.field.now) code.now.length first }
     requires second { Admissible (F.Field.ops code.now.field.now) code.now.length second }
-    ensures { MatchResult result (Restored (F.Field.ops code.now.field.now) code.now.alpha code.now.length first second block.old block.new) (Unwritten (F.Field.ops code.now.field.now) code.now.length block.old block.new) }
+    ensures { let o = F.Field.ops code.now.field.now in
+        MatchResult result
+        (Restored o code.now.alpha code.now.length first second block.old block.new)
+        (Unwritten o code.now.length block.old block.new) }
 {
     encode(code, block)?;
     inflict(block, first);

@@ -1,55 +1,58 @@
 // One wrong symbol.
 ghost use Rattle.std.specs.Prelude.{◌≡◌, length, MatchOption, MatchResult, ◌≢◌};
 ghost use Rattle.code.specs.Blocks.{Elements};
-ghost use Rattle.code.specs.Generator.{Generates};
-ghost use Rattle.corrector.specs.Errors.{SumsOf, Inside, Ratio, Corrects, NotOne};
+ghost use Rattle.corrector.specs.Errors.{SumsOf, Ratio, Corrects, NotOne};
 
 use crate::arithmetic::divide;
+use crate::decoder::Decoder;
 use crate::places::{amend, find_place};
 use crate::syndromes::Syndromes;
 use algebra::Field;
 use code::CodeFault;
 
-// The ratio of each sum to the one before, if it is the same for all three.
-fn common_ratio<F: Field>(field: &F, s: Syndromes<F::Elem>) -> Option<F::Elem>
-    requires inside { Inside (F.Field.ops field.now) s }
-    requires nonzero { s.s1 ≢ (F.Field.ops field.now).zero }
-    ensures { MatchOption result ((x : F.Elem) → Ratio (F.Field.ops field.now) s x → ⊥) (Ratio (F.Field.ops field.now) s) }
-{
-    let x = divide(field, s.s2, s.s1);
-    let third = field.mul(x, s.s2);
-    if !field.equal(s.s3, third) {
-        return None;
+impl<F: Field> Decoder<'_, F> {
+    // The ratio of each sum to the one before, if it is the same for all three.
+    fn common_ratio(&self) -> Option<F::Elem>
+        requires { self.now.sums.s1 ≢ (F.Field.ops self.now.code.now.field.now).zero }
+        ensures { let o = F.Field.ops self.now.code.now.field.now in
+            MatchOption result ((x : F.Elem) → Ratio o self.now.sums x → ⊥) (Ratio o self.now.sums) }
+    {
+        let field = self.code.field;
+        let Syndromes { s1, s2, s3, s4 } = self.sums;
+        let x = divide(field, s2, s1);
+        let third = field.mul(x, s2);
+        let fourth = field.mul(x, s3);
+        if field.equal(s3, third) && field.equal(s4, fourth) {
+            Some(x)
+        } else {
+            None
+        }
     }
-    let fourth = field.mul(x, s.s3);
-    if !field.equal(s.s4, fourth) {
-        return None;
-    }
-    Some(x)
-}
 
-// Corrects one wrong symbol: at the place k it makes each sum αᵏ times the one before.
-pub fn correct_one<F: Field>(
-    field: &F,
-    alpha: F::Elem,
-    block: &mut [F::Elem],
-    s: Syndromes<F::Elem>,
-) -> Result<usize, CodeFault>
-    requires generator { Generates (F.Field.ops field.now) alpha (length block.old) }
-    requires elements { Elements (F.Field.ops field.now) block.old }
-    requires value { SumsOf (F.Field.ops field.now) alpha block.old s }
-    requires inside { Inside (F.Field.ops field.now) s }
-    ensures { MatchResult result (Corrects (F.Field.ops field.now) alpha block.old block.new) (NotOne (F.Field.ops field.now) alpha s block.old block.new) }
-{
-    if field.equal(s.s1, field.zero()) {
-        return Err(CodeFault::NoCodeWord);
+    // Corrects one wrong symbol: at the place k it makes each sum αᵏ times the one before.
+    pub fn correct_one(&self, block: &mut [F::Elem]) -> Result<usize, CodeFault>
+        requires long { length block.old ≡ self.now.code.now.length }
+        requires elements { Elements (F.Field.ops self.now.code.now.field.now) block.old }
+        requires sums { let o = F.Field.ops self.now.code.now.field.now in
+            SumsOf o self.now.code.now.alpha block.old self.now.sums }
+        ensures { let o = F.Field.ops self.now.code.now.field.now in
+            let α = self.now.code.now.alpha in
+            MatchResult result
+            (Corrects o α block.old block.new)
+            (NotOne o α self.now.sums block.old block.new) }
+    {
+        let field = self.code.field;
+        let s1 = self.sums.s1;
+        if field.equal(s1, field.zero()) {
+            return Err(CodeFault::NoCodeWord);
+        }
+        let Some(x) = self.common_ratio() else {
+            return Err(CodeFault::NoCodeWord);
+        };
+        let Some(k) = find_place(self.code, x) else {
+            return Err(CodeFault::NoCodeWord);
+        };
+        amend(field, block, k, divide(field, s1, x));
+        Ok(1)
     }
-    let Some(x) = common_ratio(field, s) else {
-        return Err(CodeFault::NoCodeWord);
-    };
-    let Some(k) = find_place(field, alpha, block.len(), x) else {
-        return Err(CodeFault::NoCodeWord);
-    };
-    amend(field, block, k, divide(field, s.s1, x));
-    Ok(1)
 }

@@ -1,5 +1,5 @@
 -- Cubic polynomials modulo x⁴ - p: the polynomial of four roots, one step of the division, and its loop.
-use Rattle.std.proofs.Common.{◌≡◌, ℕ, ◌+◌, ◌<◌, List, [], ◌∷◌, length, get_or, drop, sym, refl, ap, ◌∙◌}
+use Rattle.std.proofs.Common.{◌≡◌, ℕ, ◌+◌, ◌<◌, List, [], ◌∷◌, length, get_or, drop, sym, refl, ap, ◌∙◌, subst}
 use Rattle.std.proofs.lemmas.List.{at_drop_more}
 use Rattle.std.proofs.ByRecursion.{All-get_or, All-drop}
 use Rattle.algebra.specs.Operations.{Ops, In}
@@ -7,9 +7,10 @@ use Rattle.algebra.specs.Laws.{Arithmetic}
 use Rattle.algebra.specs.Powers.{power}
 use Rattle.algebra.proofs.Elements.{by_ring, by_ring_from, is_element, times, reads}
 use Rattle.code.specs.Blocks.{Elements}
-use Rattle.code.proofs.Powers.{power_in}
-use Rattle.code.proofs.Polynomials.{Value, value_in}
+use Rattle.code.proofs.Powers.{power_in, power_one}
+use Rattle.code.proofs.Polynomials.{four_exponents, Value, value_in}
 use Rattle.writer.specs.Division.{at, Inside, Root, Steps}
+use Rattle.code.specs.declared.codes.Points.{Points}
 use Rattle.writer.specs.declared.division.Cubic.{Cubic}
 
 pub cubic-≡ : {E : Type 0} {p q : Cubic E} → p.c3 ≡ q.c3 → p.c2 ≡ q.c2 → p.c1 ≡ q.c1 → p.c0 ≡ q.c0 → p ≡ q
@@ -22,6 +23,15 @@ four_roots o a b c d = record {
   c2 = o.neg (o.add (o.add (o.mul a b) (o.mul c d)) (o.mul (o.add a b) (o.add c d)));
   c1 = o.add (o.mul (o.add a b) (o.mul c d)) (o.mul (o.mul a b) (o.add c d));
   c0 = o.neg (o.mul (o.mul a b) (o.mul c d));
+}
+
+-- the same of the points of a code, where the product of the first two is the third
+abbrev pub of_points : {E : Type 0} → Ops E → Points E → Cubic E
+of_points o p = record {
+  c3 = o.add (o.add p.first p.second) (o.add p.third p.fourth);
+  c2 = o.neg (o.add (o.add p.third (o.mul p.third p.fourth)) (o.mul (o.add p.first p.second) (o.add p.third p.fourth)));
+  c1 = o.add (o.mul (o.add p.first p.second) (o.mul p.third p.fourth)) (o.mul p.third (o.add p.third p.fourth));
+  c0 = o.neg (o.mul p.third (o.mul p.third p.fourth));
 }
 
 abbrev pub stepped : {E : Type 0} → Ops E → Cubic E → Cubic E → E → Cubic E
@@ -52,17 +62,33 @@ module _ {E : Type 0} {o : Ops E} (l : Arithmetic o) where
       (times l (neg (r.c3 ⊹ s)) root (search reads depth 40 fits 5000) (search reads depth 40 fits 5000) ∷ []) (search reads depth 40 fits 5000) refl
 
   module _ (a b c d : E) (ha : In o a) (hb : In o b) (hc : In o c) (hd : In o d) where
-    pub root_a : Root o (four_roots o a b c d) a
+    root_a : Root o (four_roots o a b c d) a
     root_a = by_ring l ((a, ha) ∷ (b, hb) ∷ (c, hc) ∷ (d, hd) ∷ []) (search reads depth 40 fits 5000) refl
 
-    pub root_b : Root o (four_roots o a b c d) b
+    root_b : Root o (four_roots o a b c d) b
     root_b = by_ring l ((a, ha) ∷ (b, hb) ∷ (c, hc) ∷ (d, hd) ∷ []) (search reads depth 40 fits 5000) refl
 
-    pub root_c : Root o (four_roots o a b c d) c
+    root_c : Root o (four_roots o a b c d) c
     root_c = by_ring l ((a, ha) ∷ (b, hb) ∷ (c, hc) ∷ (d, hd) ∷ []) (search reads depth 40 fits 5000) refl
 
-    pub root_d : Root o (four_roots o a b c d) d
+    root_d : Root o (four_roots o a b c d) d
     root_d = by_ring l ((a, ha) ∷ (b, hb) ∷ (c, hc) ∷ (d, hd) ∷ []) (search reads depth 40 fits 5000) refl
+
+  -- the cubic that is made of the points of a code has them as roots
+  pub points_are_roots : (α : E) → In o α → (p : Points E)
+      → p ≡ record { first = power o α 1; second = power o α 2; third = power o α 3; fourth = power o α 4 }
+      → (i : ℕ) → i < 4 → Root o (of_points o p) (power o α (1 + i))
+  points_are_roots α h p e =
+      let h2 = power_in l α 2 h in
+      let h3 = power_in l α 3 h in
+      let h4 = power_in l α 4 h in
+      let q = four_roots o α (power o α 2) (power o α 3) (power o α 4) in
+      let one = power_one l α h in
+      let at_powers : of_points o (record { first = α; second = power o α 2; third = power o α 3; fourth = power o α 4 }) ≡ of_points o p =
+      ap (λ a. of_points o (record { first = a; second = power o α 2; third = power o α 3; fourth = power o α 4 })) one ∙ ap (of_points o) (sym e) in
+      four_exponents (λ i. Root o (of_points o p) (power o α i))
+      (rw (← at_powers) (subst (Root o q) one (root_a α _ _ _ h h2 h3 h4))) (rw (← at_powers) (root_b α _ _ _ h h2 h3 h4))
+      (rw (← at_powers) (root_c α _ _ _ h h2 h3 h4)) (rw (← at_powers) (root_d α _ _ _ h h2 h3 h4))
 
   pub dividend_none : (x : E) (xs : List E) → In o x → Elements o xs → Dividend o x (record { c3 = 𝟘; c2 = 𝟘; c1 = 𝟘; c0 = 𝟘 }) xs ≡ Value o x xs · power o x 4
   dividend_none x xs hx hs =

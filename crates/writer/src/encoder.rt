@@ -3,7 +3,7 @@ ghost use Rattle.std.specs.Prelude.{◌≡◌, ◌≤◌, length, MatchResult};
 ghost use Rattle.code.specs.Blocks.{Elements, data_of};
 ghost use Rattle.writer.specs.Writing.{Written, Unwritten};
 
-use crate::division::{Cubic, generator, remainder};
+use crate::division::{Cubic, Divisor};
 use algebra::Field;
 use code::{Code, CodeFault};
 
@@ -15,11 +15,12 @@ fn write_checks<F: Field>(code: &Code<'_, F>, block: &mut [F::Elem])
     requires room { 5 ≤ code.now.length }
     requires long { length block.old ≡ code.now.length }
     requires elements { Elements (F.Field.ops code.now.field.now) (data_of code.now.length block.old) }
-    ensures { Written (F.Field.ops code.now.field.now) code.now.alpha code.now.length block.old block.new }
+    ensures { let o = F.Field.ops code.now.field.now in
+        Written o code.now.alpha code.now.length block.old block.new }
 {
     let field = code.field;
     let first = code.length - CHECKS;
-    let rest = remainder(field, generator(field, code.alpha), &block[..first]);
+    let rest = Divisor::generator(code).remainder(&block[..first]);
     let Cubic { c3, c2, c1, c0 } = rest;
     block[first] = field.neg(c3);
     block[first + 1] = field.neg(c2);
@@ -30,7 +31,10 @@ fn write_checks<F: Field>(code: &Code<'_, F>, block: &mut [F::Elem])
 // Writes the checks of a block after its data symbols.
 pub fn encode<F: Field>(code: &Code<'_, F>, block: &mut [F::Elem]) -> Result<(), CodeFault>
     requires { 5 ≤ code.now.length }
-    ensures { MatchResult result (λ _. Written (F.Field.ops code.now.field.now) code.now.alpha code.now.length block.old block.new) (Unwritten (F.Field.ops code.now.field.now) code.now.length block.old block.new) }
+    ensures { let o = F.Field.ops code.now.field.now in
+        MatchResult result
+        (λ _. Written o code.now.alpha code.now.length block.old block.new)
+        (Unwritten o code.now.length block.old block.new) }
 {
     code.check_shape(block, code.length - CHECKS)?;
     write_checks(code, block);

@@ -6,8 +6,8 @@ use Rattle.corrector.proofs.places.find_place.Given as goal
 
 abbrev pub invariant-loop-k : goal.invariant-loop-k
 invariant-loop-k g l =
-    let o = g.F.Field.ops l.field in
-    (l.k ≤ l.n) × (In o l.locator) × (l.locator ≡ power o l.alpha l.k) × ((i : ℕ) → i < l.k → power o l.alpha i ≡ l.x → ⊥)
+    let o = g.F.Field.ops l.code.field.now in
+    (l.k ≤ l.n) × (In o l.locator) × (l.locator ≡ power o l.code.alpha l.k) × ((i : ℕ) → i < l.k → power o l.code.alpha i ≡ l.x → ⊥)
 
 abbrev pub decreases-loop-k : goal.decreases-loop-k
 decreases-loop-k g l = l.n - l.k

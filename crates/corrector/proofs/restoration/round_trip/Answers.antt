@@ -1,8 +1,5 @@
 -- The damaged block is within two symbols of the written one, which is the only code word there.
-use Rattle.std.proofs.Common.{◌≡◌, ap, ◌∙◌, subst, MatchResult}
 use Rattle.std.proofs.lemmas.Result.{MatchResult-weaker}
-use Rattle.corrector.specs.Correction.{Corrected, Uncorrected}
-use Rattle.corrector.specs.RoundTrip.{damaged}
 use Rattle.corrector.proofs.Outcomes.{restored, not_refused}
 use Rattle.corrector.proofs.restoration.round_trip.Goals as goal
 
@@ -17,10 +14,7 @@ returns g c =
     let b = c.args.block.now in
     let w = c.in_ok-encode.ensures in
     let written = c.encode.new.block in
-    let after = c.correct.new.block in
-    let arrived : c.inflict-2.new.block ≡ damaged (damaged written c.args.first) c.args.second =
-    c.inflict-2.ensures ∙ ap (λ x. damaged x c.args.second) c.inflict.ensures in
-    MatchResult-weaker c.correct.result
-    (subst (λ x. MatchResult c.correct.result (Corrected o α n x after) (Uncorrected o α n x after)) arrived c.correct.ensures)
-    (λ count r. restored l α n gen b written w c.args.first c.args.second c.requires.first c.requires.second after count r)
+    let arrived = rw (c.inflict-2.ensures, c.inflict.ensures) at c.correct.ensures in
+    MatchResult-weaker c.correct.result arrived
+    (λ count r. restored l α n gen b written w c.args.first c.args.second c.requires.first c.requires.second _ count r)
     (λ fault r. absurd (not_refused l α n gen b written w c.args.first c.args.second c.requires.first c.requires.second fault r.due))

@@ -1,5 +1,7 @@
 -- The four places set are the checks after the data.
 use Rattle.std.proofs.Common.{◌≡◌, ◌+◌, ◌-◌, length, arith}
+use Rattle.code.specs.Blocks.{data_of}
+use Rattle.writer.specs.Division.{Inside, Remains}
 use Rattle.writer.proofs.Checks.{set_last, written}
 use Rattle.writer.proofs.encoder.write_checks.Goals as goal
 
@@ -10,11 +12,9 @@ returns g c =
     let l = (g.met.F.Field.laws k.field.now).arithmetic in
     let b = c.args.block.now in
     let q = c.remainder-rest.result in
-    let e3 : c.neg.result ≡ o.neg q.c3 = c.neg.ensures.value in
-    let e2 : c.neg-2.result ≡ o.neg q.c2 = c.neg-2.ensures.value in
-    let e1 : c.neg-3.result ≡ o.neg q.c1 = c.neg-3.ensures.value in
-    let e0 : c.neg-4.result ≡ o.neg q.c0 = c.neg-4.ensures.value in
     let room : length b ≡ (k.length - 4) + 4 = omega (arith, c.requires.long, c.requires.room) in
-    rw (set_last (k.length - 4) b c.neg.result c.neg-2.result c.neg-3.result c.neg-4.result room, e3, e2, e1, e0)
-    (written l k.alpha k.length b c.generator.result q k.generator c.requires.room c.requires.long c.requires.elements
-    c.remainder-rest.ensures.inside c.generator.ensures.roots c.remainder-rest.ensures.value)
+    let q_in : Inside o q = rw c.generator.ensures.field at c.remainder-rest.ensures.inside in
+    let remains : Remains o c.generator.result.rest (data_of k.length b) q = rw c.generator.ensures.field at c.remainder-rest.ensures.value in
+    rw (set_last (k.length - 4) b c.neg.result c.neg-2.result c.neg-3.result c.neg-4.result room, c.neg.ensures.value, c.neg-2.ensures.value, c.neg-3.ensures.value, c.neg-4.ensures.value)
+    (written l k.alpha k.length b c.generator.result.rest q k.generator c.requires.room c.requires.long c.requires.elements
+    q_in c.generator.ensures.roots remains)

@@ -5,10 +5,10 @@ use Rattle.algebra.specs.Powers.{power}
 use Rattle.code.proofs.Polynomials.{Value}
 use Rattle.writer.specs.Division.{Inside, Root}
 use Rattle.writer.proofs.Remainders.{Dividend}
-use Rattle.writer.proofs.division.remainder.Given as goal
+use Rattle.writer.proofs.division.Divisor.remainder.Given as goal
 
 abbrev pub invariant-loop-symbol : goal.invariant-loop-symbol
 invariant-loop-symbol g l =
-    let o = g.F.Field.ops l.field in
+    let o = g.F.Field.ops l.self.field.now in
     Inside o l.rest
-    × ((x : g.row.F-Elem.Denot) → In o x → Root o l.divisor x → Dividend o x l.rest (drop l.symbol-index l.symbols) ≡ o.mul (Value o x l.symbols) (power o x 4))
+    × ((x : g.row.F-Elem.Denot) → In o x → Root o l.self.rest x → Dividend o x l.rest (drop l.symbol-index l.symbols) ≡ o.mul (Value o x l.symbols) (power o x 4))
