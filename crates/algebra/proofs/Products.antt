@@ -1,5 +1,5 @@
 -- What the laws give of products that are zero, and of two roots of one element.
-use Rattle.std.proofs.Common.{◌≡◌, Bool, true, false, ◌⊎◌, [], ◌∷◌, sym, refl, ap, ◌∙◌, subst, inl, inr, arith}
+use Rattle.std.proofs.Common.{◌≡◌, Bool, true, false, ◌⊎◌, [], ◌∷◌, sym, refl, ap, ◌∙◌, inl, inr, arith}
 use Rattle.algebra.specs.Operations.{Ops, In, minus}
 use Rattle.algebra.specs.Laws.{Arithmetic, Laws}
 use Rattle.std.proofs.lemmas.Bool.{cases_eq}
@@ -17,7 +17,7 @@ module _ {E : Type 0} {o : Ops E} (l : Arithmetic o) where
     where
       go : (s : Bool) → o.same a b ≡ s → (a ≡ b) ⊎ (a ≡ b → ⊥)
       go true e = inl (l.same_is a b ha hb e)
-      go false e = inr (λ q. let z : true ≡ false = sym (l.is_same a ha) ∙ ap (o.same a) q ∙ e in absurd (subst (λ s. elim s as (λ _. Type 0) [ true ↦ Unit {0} | false ↦ ⊥ ]) z tt))
+      go false e = inr (λ q. cc (l.is_same a ha))
 
   -- a difference that is zero
   pub minus_zero : (a b : E) → In o a → In o b → minus o a b ≡ zero → a ≡ b
