@@ -2,16 +2,14 @@
 use Rattle.std.proofs.Common.{◌≡◌, ℕ, zero, suc, ◌+◌, ◌-◌, ◌*◌, ◌%◌, ◌^◌, ◌<◌, ◌≢◌, sym, refl, ap, ◌∙◌, subst, inl, inr, arith, pow-add}
 use native.Mathlib.Nat as N
 use Rattle.std.proofs.lemmas.Bool.{cases_eq, lt-ltb}
-use Rattle.algebra.specs.Roots.{Square, RootOf}
+use Rattle.algebra.specs.Roots.{Square}
 use Rattle.prime_field.specs.Primes.{Prime}
 use Rattle.prime_field.specs.Modular.{power, modular}
 use Rattle.prime_field.specs.Exponents.{NoExponent, LeastExponent}
-use Rattle.prime_field.specs.declared.PrimeField.{PrimeField}
 use Rattle.prime_field.specs.Proofs.Congruences.{mod_eq, mul_congr, mod_mul_left, mod_mul_right, add_cancel}
 use Rattle.prime_field.specs.Proofs.Euclid.{euclid}
-use Rattle.prime_field.specs.Proofs.UnitProducts.{negative_square}
 use Rattle.prime_field.specs.Proofs.Euler.{minus_one_squared}
-use Rattle.prime_field.specs.Proofs.Residues.{Split, field_split, exponent_pos, double, square_order}
+use Rattle.prime_field.specs.Proofs.Residues.{Split, exponent_pos, double, square_order}
 use Rattle.prime_field.specs.Proofs.Powers.{power_lt, power_one, power_add, power_suc, power_power, mul_power, square_power}
 
 -- 1 and - 1 are the only numbers whose square is 1
@@ -43,28 +41,19 @@ pub record Round (p a x b c m : ℕ) : Type 0 where
   pub c_order : power p c (2 ^ (m - 1)) ≡ p - 1
   pub b_order : Square (modular p) a → power p b (2 ^ (m - 1)) ≡ 1
 
-pub round_first : (f : PrimeField) (a k w x b : ℕ) → 0 < a → a < f.modulus → w ≡ power f.modulus a k → x ≡ (a * w) % f.modulus →
-    b ≡ (x * w) % f.modulus → k + k + 1 ≡ f.cofactor → Round f.modulus a x b f.generator f.exponent
-round_first f a k w x b pa la ew ex eb q =
+pub round_first : {p s t : ℕ} → Split p s t → (a k w x b g : ℕ) → g < p → power p g (2 ^ (s - 1)) ≡ p - 1 → 0 < a → a < p →
+    w ≡ power p a k → x ≡ (a * w) % p → b ≡ (x * w) % p → k + k + 1 ≡ t → Round p a x b g s
+round_first {p} {s} {t} h a k w x b g lg order pa la ew ex eb q =
     record {
       x_in = subst (λ (v : ℕ). v < p) (sym ex) (N.mod-lt (a * w) pos);
       b_in = subst (λ (v : ℕ). v < p) (sym eb) (N.mod-lt (x * w) pos);
-      c_in = f.inside;
+      c_in = lg;
       more = exponent_pos h;
       square = square;
-      c_order = f.order;
+      c_order = order;
       b_order = square_order h a b b_power pa la;
     }
   where
-    p : ℕ
-    p = f.modulus
-
-    t : ℕ
-    t = f.cofactor
-
-    h : Split p f.exponent t
-    h = field_split f
-
     pos : 0 < p
     pos = omega arith
 
@@ -140,9 +129,3 @@ round_next p a x b c m i n d x' c' b' P r nb l ed ex ec eb em =
 -- b is 1: x or its negative is the root
 pub round_last : (p a x b c m : ℕ) → a < p → Round p a x b c m → b ≡ 1 → (x * x) % p ≡ a
 round_last p a x b c m la r e = r.square ∙ ap (λ (v : ℕ). (a * v) % p) e ∙ mod_eq p (N.mul-one a) ∙ N.mod-eq_of_lt la
-
-pub even_root : (p a x : ℕ) → x < p → (x * x) % p ≡ a → x % 2 ≡ 0 → RootOf (modular p) a x
-even_root p a x lx e even = record { inside = lt-ltb x p lx; squares = e; even = even }
-
-pub negative_root : (p a x y : ℕ) → 0 < x → (x * x) % p ≡ a → x + y ≡ p → y % 2 ≡ 0 → RootOf (modular p) a y
-negative_root p a x y pos e d even = even_root p a y (omega arith) (negative_square p x y d ∙ e) even

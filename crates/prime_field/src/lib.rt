@@ -12,11 +12,12 @@ mod roots;
 #[cfg(test)]
 mod tests;
 
+use arithmetic::Modulus;
 pub use making::is_listed;
 
 // The field of an odd prime, with what roots need:
 // the modulus less one is 2^exponent times the odd cofactor, and the generator is a nonresidue to the power of the cofactor.
-#[derive(Clone, Copy)]
+#[derive(Clone, Copy, PartialEq, Eq, Debug)]
 pub struct PrimeField {
     modulus: u32,
     exponent: u32,
@@ -30,4 +31,14 @@ pub struct PrimeField {
     ghost inside: { generator < modulus },
     // the generator has the order 2^exponent
     ghost order: { power modulus generator (2 ^ (exponent - 1)) ≡ modulus - 1 },
+}
+
+impl PrimeField {
+    fn prime(&self) -> Modulus
+        ensures { result.value ≡ self.now.modulus }
+    {
+        Modulus {
+            value: self.modulus,
+        }
+    }
 }
