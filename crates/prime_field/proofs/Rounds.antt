@@ -3,10 +3,11 @@ use Rattle.std.proofs.Common.{◌≡◌, ℕ, zero, suc, ◌+◌, ◌-◌, ◌*�
 use native.Mathlib.Nat as N
 use Rattle.std.proofs.lemmas.Bool.{cases_eq, lt-ltb}
 use Rattle.algebra.specs.Roots.{Square}
+use Rattle.std.proofs.lemmas.Nat.{mul-mod_first, mul-mod_second}
 use Rattle.prime_field.specs.Primes.{Prime}
 use Rattle.prime_field.specs.Modular.{power, modular}
 use Rattle.prime_field.specs.Exponents.{NoExponent, LeastExponent}
-use Rattle.prime_field.specs.Proofs.Congruences.{mod_eq, mul_congr, mod_mul_left, mod_mul_right, add_cancel}
+use Rattle.prime_field.specs.Proofs.Congruences.{mod_eq, mul_congr, add_cancel}
 use Rattle.prime_field.specs.Proofs.Euclid.{euclid}
 use Rattle.prime_field.specs.Proofs.Euler.{minus_one_squared}
 use Rattle.prime_field.specs.Proofs.Residues.{Split, exponent_pos, double, square_order}
@@ -59,13 +60,13 @@ round_first {p} {s} {t} h a k w x b g lg order pa la ew ex eb q =
 
     square : (x * x) % p ≡ (a * b) % p
     square =
-        ap (λ (v : ℕ). (x * v) % p) ex ∙ mod_mul_right x (a * w) p ∙ mod_eq p (N.mul_left_comm x a w)
-        ∙ sym (mod_mul_right a (x * w) p) ∙ ap (λ (v : ℕ). (a * v) % p) (sym eb)
+        ap (λ (v : ℕ). (x * v) % p) ex ∙ mul-mod_second x (a * w) p ∙ mod_eq p (N.mul_left_comm x a w)
+        ∙ sym (mul-mod_second a (x * w) p) ∙ ap (λ (v : ℕ). (a * v) % p) (sym eb)
 
     b_power : b ≡ power p a t
     b_power =
         let g : a * w * w ≡ w * w * a = omega arith in
-        eb ∙ ap (λ (v : ℕ). (v * w) % p) ex ∙ mod_mul_left (a * w) w p ∙ mod_eq p g ∙ sym (mod_mul_left (w * w) a p)
+        eb ∙ ap (λ (v : ℕ). (v * w) % p) ex ∙ mul-mod_first (a * w) w p ∙ mod_eq p g ∙ sym (mul-mod_first (w * w) a p)
         ∙ ap (λ (v : ℕ). ((v * v) % p * a) % p) ew ∙ ap (λ (v : ℕ). (v * a) % p) (power_add p a k k) ∙ power_suc p a (k + k)
         ∙ ap (λ (v : ℕ). power p a v) q
 
@@ -106,7 +107,7 @@ round_next p a x b c m i n d x' c' b' P r nb l ed ex ec eb em =
         ∙ mod_eq p (N.mul-mul-mul_comm x d x d)
         ∙ mul_congr p (x * x) (a * b) (d * d) c' r.square (sym (mod_eq p ec ∙ N.mod-mod (d * d) p))
         ∙ mod_eq p (N.mul_assoc a b c')
-        ∙ sym (mod_mul_right a (b * c') p) ∙ ap (λ (v : ℕ). (a * v) % p) (sym eb)
+        ∙ sym (mul-mod_second a (b * c') p) ∙ ap (λ (v : ℕ). (a * v) % p) (sym eb)
 
     c_order : power p c' (2 ^ (i - 1)) ≡ p - 1
     c_order =
