@@ -8,7 +8,7 @@ use Rattle.std.proofs.lemmas.Nat.Bits.{bit_at-trailing_zeros}
 use Rattle.std.proofs.lemmas.Bool.{cases_eq}
 use Rattle.prime_field.specs.Modular.{power}
 use Rattle.prime_field.specs.Exponents.{NoExponent}
-use Rattle.prime_field.specs.Proofs.Powers.{power_zero, power_add, power_suc}
+use Rattle.prime_field.specs.Proofs.Powers.{power_zero, power_one, power_add, power_suc}
 
 -- a number whose k lowest digits are 0 is a multiple of 2 ^ k
 low_digits : (n k : ℕ) → ((i : ℕ) → i < k → bit_at n i ≡ 0) → n % 2 ^ k ≡ 0
@@ -73,3 +73,11 @@ digit_one p a n k pos z =
     let h : ℕ = n / 2 ^ k in
     let g : n / 2 ^ (k - 1) ≡ h + h + 1 = omega (arith, digit_more n k pos) in
     ap (λ (v : ℕ). power p a v) g ∙ sym (power_suc p a (h + h)) ∙ ap (λ (v : ℕ). (v * a) % p) (sym (power_add p a h h))
+
+pub ruleset digits = (no_digits, digit_zero, digit_one)
+
+pub ruleset squarings = (power_one, square_more)
+
+pub ruleset splits = (whole_split, odd_split)
+
+pub ruleset searches = (power_one, square_at, none_more)

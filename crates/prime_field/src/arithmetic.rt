@@ -33,7 +33,7 @@ impl Modulus {
     }
 
     // Squares for each binary digit of n, from the highest, and multiplies by a for each digit 1.
-    #[tactic(auto, using(crate::proofs::Squaring::no_digits, crate::proofs::Squaring::digit_zero, crate::proofs::Squaring::digit_one))]
+    #[tactic(auto, using(crate::proofs::Squaring::digits))]
     pub fn pow(self, a: u32, n: u32) -> u32
         ensures value { result ≡ power self.value a n }
         ensures inside { result < self.value }
@@ -49,7 +49,7 @@ impl Modulus {
     }
 
     // Squares a k times.
-    #[tactic(auto, using(crate::proofs::Squaring::square_more, crate::specs::Proofs::Powers::power_one))]
+    #[tactic(auto, using(crate::proofs::Squaring::squarings))]
     pub fn square_times(self, a: u32, k: u32) -> u32
         requires { a < self.value }
         ensures value { result ≡ power self.value a (2 ^ k) }

@@ -17,6 +17,7 @@ pub use making::is_listed;
 
 // The field of an odd prime, with what roots need:
 // the modulus less one is 2^exponent times the odd cofactor, and the generator is a nonresidue to the power of the cofactor.
+// The modulus stays a plain number, since that is what the crates above read; `prime` gives its arithmetic.
 #[derive(Clone, Copy, PartialEq, Eq, Debug)]
 pub struct PrimeField {
     modulus: u32,
@@ -34,6 +35,7 @@ pub struct PrimeField {
 }
 
 impl PrimeField {
+    // The modulus, with its arithmetic.
     fn prime(&self) -> Modulus
         ensures { result.value ≡ self.now.modulus }
     {

@@ -1,7 +1,6 @@
 // Making a field of a listed prime and a nonresidue.
 ghost use Rattle.std.specs.Prelude.{◌≡◌, ◌*◌, ◌%◌, ◌^◌, ◌<◌, Decides, MatchResult};
-ghost use Rattle.prime_field.specs.Making.{Listed, Nonresidue, RefusesMaking};
-ghost use Rattle.prime_field.specs.Modular.{power};
+ghost use Rattle.prime_field.specs.Making.{Listed, MadeOf, RefusesMaking};
 
 use crate::PrimeField;
 use crate::arithmetic::Modulus;
@@ -15,7 +14,7 @@ pub fn is_listed(p: u32) -> bool
 }
 
 // n as a power of two times an odd number: the exponent and the odd number.
-#[tactic(auto, using(crate::proofs::Squaring::whole_split, crate::proofs::Squaring::odd_split))]
+#[tactic(auto, using(crate::proofs::Squaring::splits))]
 fn split_twos(n: u32) -> (u32, u32)
     requires { 0 < n }
     ensures whole { n ≡ 2 ^ result.0 * result.1 }
@@ -28,7 +27,7 @@ fn split_twos(n: u32) -> (u32, u32)
 impl PrimeField {
     // The field of a listed modulus, with a number that has no root in it.
     pub fn new(modulus: u32, nonresidue: u32) -> Result<PrimeField, FieldFault>
-        ensures { MatchResult result (λ f. Listed modulus × Nonresidue modulus nonresidue × (f.modulus ≡ modulus) × (f.generator ≡ power modulus nonresidue f.cofactor)) (RefusesMaking modulus nonresidue) }
+        ensures { MatchResult result (MadeOf modulus nonresidue) (RefusesMaking modulus nonresidue) }
     {
         if !is_listed(modulus) {
             return Err(FieldFault::UnlistedModulus);

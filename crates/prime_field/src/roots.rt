@@ -9,6 +9,7 @@ use algebra::{Field, RootedField};
 
 impl Modulus {
     // The least i from 1 to m - 1 such that b squared i times is 1, found by i squarings; None, after m - 1, where there is none.
+    #[tactic(auto, using(crate::proofs::Squaring::searches))]
     fn least_exponent(self, b: u32, m: u32) -> Option<u32>
         requires { b < self.value }
         ensures { MatchOption result (NoExponent self.value b m) (LeastExponent self.value b m) }

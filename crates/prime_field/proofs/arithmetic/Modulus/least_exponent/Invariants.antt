@@ -6,7 +6,12 @@ use Rattle.prime_field.proofs.arithmetic.Modulus.least_exponent.Given as goal
 
 -- e is b squared j - 1 times
 abbrev pub invariant-loop-j : goal.invariant-loop-j
-invariant-loop-j l = (0 < l.j) × (l.e < l.self.value) × (l.e ≡ power l.self.value l.b (2 ^ (l.j - 1))) × NoExponent l.self.value l.b l.j
+invariant-loop-j l = record {
+  positive : 0 < l.j;
+  inside : l.e < l.self.value;
+  value : l.e ≡ power l.self.value l.b (2 ^ (l.j - 1));
+  none : NoExponent l.self.value l.b l.j;
+}
 
 abbrev pub decreases-loop-j : goal.decreases-loop-j
 decreases-loop-j l = l.m - l.j

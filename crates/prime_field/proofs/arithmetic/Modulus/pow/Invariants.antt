@@ -4,4 +4,7 @@ use Rattle.prime_field.specs.Modular.{power}
 use Rattle.prime_field.proofs.arithmetic.Modulus.pow.Given as goal
 
 abbrev pub invariant-loop-k : goal.invariant-loop-k
-invariant-loop-k l = (l.r ≡ power l.self.value l.a (l.n / 2 ^ l.k)) × (l.r < l.self.value)
+invariant-loop-k l = record {
+  value : l.r ≡ power l.self.value l.a (l.n / 2 ^ l.k);
+  inside : l.r < l.self.value;
+}

@@ -4,4 +4,7 @@ use Rattle.prime_field.specs.Modular.{power}
 use Rattle.prime_field.proofs.arithmetic.Modulus.square_times.Given as goal
 
 abbrev pub invariant-loop : goal.invariant-loop
-invariant-loop l = (l.r ≡ power l.self.value l.a (2 ^ l.counter)) × (l.r < l.self.value)
+invariant-loop l = record {
+  value : l.r ≡ power l.self.value l.a (2 ^ l.counter);
+  inside : l.r < l.self.value;
+}
