@@ -33,6 +33,7 @@ impl Modulus {
 impl RootedField for PrimeField {
     ghost rooted = { λ f. modular_rooted f.modulus (record { above_one = f.above; undivided = f.undivided }) f.odd };
 
+    #[tactic(auto, using(crate::proofs::Rounds::round_none))]
     fn root(&self, a: u32) -> Option<u32> {
         if a == 0 {
             return Some(0);

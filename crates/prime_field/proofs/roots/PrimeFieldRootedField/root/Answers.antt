@@ -16,12 +16,6 @@ loop-b-init c =
     f.generator (rw e f.inside) (rw e f.order) (omega arith) (rw e (ltb-true c.args.a f.modulus c.requires))
     c.pow-w.ensures.value c.product-x.ensures.value c.product-b.ensures.value (omega (arith, f.rest))
 
-pub returns-in_err-i : goal.returns-in_err-i
-returns-in_err-i c =
-    rw (c.from_residual.ensures, ← c.prime-p.ensures)
-    (round_none c.prime-p.result.value c.args.a c.loop-b.x c.loop-b.b c.loop-b.c c.loop-b.m
-    c.loop-b.invariant c.loop-b-test.true c.in_err-i.ensures)
-
 pub loop-b-preserved : goal.loop-b-preserved
 loop-b-preserved c =
     round_next c.prime-p.result.value c.args.a c.loop-b.x c.loop-b.b c.loop-b.c c.loop-b.m c.in_ok-i.i _
