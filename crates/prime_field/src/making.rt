@@ -26,7 +26,6 @@ fn split_twos(n: u32) -> (u32, u32)
 
 impl PrimeField {
     // The field of a listed modulus, with a number that has no root in it.
-    #[tactic(auto, using(crate::specs::Proofs::Residues::makings))]
     pub fn new(modulus: u32, nonresidue: u32) -> Result<PrimeField, FieldFault>
         ensures { MatchResult result (MadeOf modulus nonresidue) (RefusesMaking modulus nonresidue) }
     {

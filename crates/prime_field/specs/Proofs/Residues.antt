@@ -60,5 +60,3 @@ nonresidue {r = r} {c} h ec ez e pos lt =
 pub residue : {p s t r c z : ℕ} → Split p s t → c ≡ power p r t → z ≡ power p c (2 ^ (s - 1)) → z ≢ p - 1 → Nonresidue p r → ⊥
 residue {r = r} {c} h ec ez ne n =
     elim (euler h.prime h.odd r n.positive n.inside) [ inl y ↦ n.rootless y.0 | inr m ↦ ne (ez ∙ euler_power h r c ec ∙ m.1) ]
-
-pub ruleset makings = (listed_odd, listed_split, nonresidue)

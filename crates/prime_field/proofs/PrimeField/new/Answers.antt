@@ -1,6 +1,7 @@
--- A listed modulus is prime, and Euler's criterion finds no nonresidue there.
+-- A field is made exactly of a listed modulus and a nonresidue, by Euler's criterion.
+use Rattle.std.proofs.Common.{refl, arith}
 use Rattle.prime_field.specs.Proofs.ListedPrimes.{listed_prime}
-use Rattle.prime_field.specs.Proofs.Residues.{listed_split, residue}
+use Rattle.prime_field.specs.Proofs.Residues.{listed_split, nonresidue, residue}
 use Rattle.prime_field.proofs.PrimeField.new.Goals as goal
 
 pub returns-then-square_times-modulus : goal.returns-then-square_times-modulus
@@ -11,3 +12,13 @@ returns-then-square_times-modulus c =
 
 pub invariant_of-result-clause-undivided : goal.invariant_of-result-clause-undivided
 invariant_of-result-clause-undivided c = (listed_prime c.args.modulus (c.is_listed.ensures.0 c.if-not-is_listed.false)).undivided
+
+pub returns : goal.returns
+returns c =
+    let listed = c.is_listed.ensures.0 c.if-not-is_listed.false in
+    let split = listed_split listed c.split_twos-exponent.ensures.whole c.split_twos-exponent.ensures.odd in (
+      listed,
+      nonresidue split c.pow-generator.ensures.value c.square_times.ensures.value c.if-square_times-modulus.false (omega arith) (omega arith),
+      refl,
+      c.pow-generator.ensures.value,
+    )

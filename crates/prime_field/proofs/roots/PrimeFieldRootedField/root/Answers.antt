@@ -2,10 +2,9 @@
 use Rattle.std.proofs.Common.{◌∙◌, sym, subst, arith}
 use Rattle.std.proofs.lemmas.Bool.{ltb-true, lt-ltb}
 use Rattle.algebra.proofs.Products.{negative_root}
-use Rattle.prime_field.specs.Primes.{Prime}
 use Rattle.prime_field.specs.Proofs.ModularLaws.{modular_laws}
 use Rattle.prime_field.specs.Proofs.Residues.{Split, field_split}
-use Rattle.prime_field.proofs.Rounds.{round_first, round_none, round_next, round_last}
+use Rattle.prime_field.proofs.Rounds.{round_first, round_next, round_last}
 use Rattle.prime_field.proofs.roots.PrimeFieldRootedField.root.Goals as goal
 
 pub loop-b-init : goal.loop-b-init
