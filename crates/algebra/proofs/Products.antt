@@ -67,17 +67,17 @@ root_unique {o = o} laws a x y rx ry =
     l = laws.arithmetic
 
 -- the negative of an element of another sign than 0 has the same square and sign 0
-pub negative_root : {E : Type 0} {o : Ops E} → Laws o → (a x : E) → In o x → o.mul x x ≡ a → o.sign x ≢ 0 → RootOf o a (o.neg x)
-negative_root {o = o} laws a x hx e odd = record {
+pub negative_root : {E : Type 0} {o : Ops E} → Laws o → (a x y : E) → y ≡ o.neg x → In o x → o.mul x x ≡ a → o.sign x ≢ 0 → RootOf o a y
+negative_root {o = o} laws a x y is hx e odd = rw is (record {
   inside = laws.arithmetic.neg_in x hx;
   squares = by_ring laws.arithmetic ((x, hx) ∷ []) (search reads depth 40) refl ∙ e;
   even = let one_sign = laws.signs.of_negative x hx (λ z. odd (ap o.sign z ∙ laws.signs.of_zero)) in omega arith;
-}
+})
 
 -- of an element and its negative one has sign 0, so a square has a root
 pub square_has_root : {E : Type 0} {o : Ops E} → Laws o → (a : E) → Square o a → (x : E) × RootOf o a x
 square_has_root {o = o} laws a (x, hx, e) =
     elim (cases_eq (o.sign x) 0) [
       | inl even ↦ (x, record { inside = hx; squares = e; even = even })
-      | inr odd ↦ (o.neg x, negative_root laws a x hx e odd)
+      | inr odd ↦ (o.neg x, negative_root laws a x (o.neg x) refl hx e odd)
     ]

@@ -29,6 +29,5 @@ returns-else-sign-eq0 c =
     let x = c.loop-b.x in
     let square = round_last c.prime-p.result.value c.args.a x c.loop-b.b c.loop-b.c c.loop-b.m
     (rw c.prime-p.ensures (ltb-true c.args.a f.modulus c.requires)) c.loop-b.invariant c.loop-b-test.false in
-    rw c.neg.ensures.value
-    (negative_root (modular_laws f.modulus (field_split f).prime f.odd) c.args.a x (lt-ltb x f.modulus (omega (arith, c.loop-b.invariant.x_in)))
-    (rw c.prime-p.ensures at square) (λ even. c.if-sign-eq0.false (c.sign.ensures ∙ even)))
+    negative_root (modular_laws f.modulus (field_split f).prime f.odd) c.args.a x _ (omega arith) (lt-ltb x f.modulus (omega (arith, c.loop-b.invariant.x_in)))
+    (rw c.prime-p.ensures at square) (λ even. c.if-sign-eq0.false (c.sign.ensures ∙ even))
