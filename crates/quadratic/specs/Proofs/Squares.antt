@@ -71,23 +71,6 @@ module _ {E : Type 0} {o : Ops E} (l : Arithmetic o) where
         twice s hs =
             by_ring_from l ((s, hs) ∷ (half o, half_in) ∷ []) (times l s two_halves (search reads depth 40) (search reads depth 40) ∷ []) (search reads depth 40) refl
 
--- a square has a root of sign 0
-pub root_of_square : {E : Type 0} {o : Ops E} → Laws o → (a : E) → Square o a → (x : E) × RootOf o a x
-root_of_square {E} {o} laws a (x, hx, e) = go (equal_or_not l x o.zero hx l.zero_in)
-  where
-    l : Arithmetic o
-    l = laws.arithmetic
-
-    by_sign : (s : ℕ) → o.sign x ≡ s → (x ≢ o.zero) → (y : E) × RootOf o a y
-    by_sign zero k n = (x, record { inside = hx; squares = e; even = k })
-    by_sign (suc m) k n =
-        let one_sign = laws.signs.of_negative x hx n in
-        (o.neg x, record { inside = l.neg_in x hx; squares = neg_square l x hx ∙ e; even = omega arith })
-
-    go : (x ≡ o.zero) ⊎ (x ≢ o.zero) → (y : E) × RootOf o a y
-    go (inl z) = (x, record { inside = hx; squares = e; even = ap o.sign z ∙ laws.signs.of_zero })
-    go (inr n) = by_sign (o.sign x) refl n
-
 module _ {E : Type 0} {o : Ops E} (laws : Laws o) (β : E) (up : Nonsquare o β) where
   open o use {zero as 𝟘, one as 𝟙, add as ◌⊹◌, mul as ◌·◌, neg, inv}
 
