@@ -45,7 +45,7 @@ module _ {E : Type 0} {o : Ops E} (l : Arithmetic o) where
           (by_ring_from l ((x, hx) ∷ (y, hy) ∷ []) (times l one e (search reads depth 40) (search reads depth 40) ∷ []) (search reads depth 40) refl)
           (λ z. n (minus_zero x y hx hy z))
 
-  neg_zero : neg zero ≡ zero
+  pub neg_zero : neg zero ≡ zero
   neg_zero = by_ring l [] (search reads depth 40) refl
 
 -- an element has one root at most

@@ -14,7 +14,7 @@ pub struct Quad<F: RootedField> {
 }
 
 // An extension that was refused: why, and the field as it was.
-#[derive(Drop)]
+#[derive(Drop, Debug)]
 pub struct Unextended<F> {
     pub fault: FieldFault,
     pub base: F,

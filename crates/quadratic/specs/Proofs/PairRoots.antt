@@ -60,7 +60,10 @@ module _ {E : Type 0} {o : Ops E} (laws : Laws o) (β : E) (up : Nonsquare o β)
   })
 
   -- the two half sums, s and t, of a and a root d of its norm
-  module _ (a : E × E) (d : E) (ha : In P a) (hd : In o d) (root : d · d ≡ norm o β a) where
+  module _ (a : E × E) (d : E) (ha : In P a) (root : RootOf o (norm o β a) d) where
+    hd : In o d
+    hd = root.inside
+
     h0 : In o a.0
     h0 = low_in laws β up a ha
 
@@ -68,11 +71,11 @@ module _ {E : Type 0} {o : Ops E} (laws : Laws o) (β : E) (up : Nonsquare o β)
     h1 = high_in laws β up a ha
 
     pub sum_is : (s : E) → s ≡ (a.0 ⊹ d) · half o → HalfSum o β a s
-    sum_is s e = subst (HalfSum o β a) (sym e) (half_sum l a.0 d h0 hd β a.1 up.inside h1 root)
+    sum_is s e = subst (HalfSum o β a) (sym e) (half_sum l a.0 d h0 hd β a.1 up.inside h1 root.squares)
 
     pub difference_is : (t : E) → t ≡ minus o a.0 d · half o → HalfSum o β a t
     difference_is t e =
-        subst (HalfSum o β a) (sym e) (half_sum l a.0 (neg d) h0 (l.neg_in d hd) β a.1 up.inside h1 (neg_square l d hd ∙ root))
+        subst (HalfSum o β a) (sym e) (half_sum l a.0 (neg d) h0 (l.neg_in d hd) β a.1 up.inside h1 (neg_square l d hd ∙ root.squares))
 
     -- s or t has a root, so where s has none, what t answers is the answer
     pub answered_by : (s t : E) → s ≡ (a.0 ⊹ d) · half o → t ≡ minus o a.0 d · half o → (Square o s → ⊥)

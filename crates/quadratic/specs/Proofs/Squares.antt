@@ -29,9 +29,6 @@ module _ {E : Type 0} {o : Ops E} (l : Arithmetic o) where
   pub zero_square : Square o 𝟘
   zero_square = (𝟘, l.zero_in, by_ring l [] (search reads depth 40) refl)
 
-  pub neg_zero : neg 𝟘 ≡ 𝟘
-  neg_zero = by_ring l [] (search reads depth 40) refl
-
   pub neg_nonzero : (a : E) → In o a → (a ≢ 𝟘) → neg a ≢ 𝟘
   neg_nonzero a ha n e =
       n (by_ring_from l ((a, ha) ∷ []) (times l (neg 𝟙) e (search reads depth 40) (search reads depth 40) ∷ []) (search reads depth 40) refl)
