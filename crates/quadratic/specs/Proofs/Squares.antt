@@ -1,9 +1,9 @@
 -- What a field gives where β is no square: doubles, norms, and which elements are squares.
-use Rattle.std.specs.Prelude.{◌≡◌, ℕ, zero, suc, ◌⊎◌, [], ◌∷◌, ◌≢◌, refl}
-use Rattle.std.proofs.Common.{sym, ◌∙◌, ap, ap₂, subst, inl, inr, arith}
+use Rattle.std.specs.Prelude.{◌≡◌, ◌⊎◌, [], ◌∷◌, ◌≢◌, refl}
+use Rattle.std.proofs.Common.{sym, ◌∙◌, ap, ap₂, subst, inl, inr}
 use Rattle.algebra.specs.Operations.{Ops, In, minus}
 use Rattle.algebra.specs.Laws.{Arithmetic, Laws}
-use Rattle.algebra.specs.Roots.{Square, RootOf}
+use Rattle.algebra.specs.Roots.{Square}
 use Rattle.algebra.proofs.Elements.{by_ring, by_ring_from, times, is_element, reads}
 use Rattle.algebra.proofs.Products.{equal_or_not, other_zero}
 use Rattle.quadratic.specs.Pairs.{Nonsquare, norm, HalfSum}
