@@ -3,7 +3,7 @@
 
 ghost use Rattle.std.specs.Prelude.{◌≡◌, ◌+◌, ◌-◌, ◌*◌, ◌%◌, ◌^◌, ◌<◌};
 ghost use Rattle.prime_field.specs.Modular.{power};
-ghost use Rattle.prime_field.specs.Primes.{Undivided};
+ghost use Rattle.prime_field.specs.Primes.{Prime};
 
 mod arithmetic;
 mod making;
@@ -24,9 +24,8 @@ pub struct PrimeField {
     exponent: u32,
     cofactor: u32,
     generator: u32,
-    ghost above: { 1 < modulus },
+    ghost is_prime: { Prime modulus },
     ghost odd: { modulus % 2 ≡ 1 },
-    ghost undivided: { Undivided modulus },
     ghost whole: { modulus ≡ 2 ^ exponent * cofactor + 1 },
     ghost rest: { cofactor % 2 ≡ 1 },
     ghost inside: { generator < modulus },

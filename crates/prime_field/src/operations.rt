@@ -1,7 +1,6 @@
 // The field's operations, those of arithmetic modulo its prime.
 ghost use Rattle.prime_field.specs.Modular.{modular};
 ghost use Rattle.prime_field.specs.Proofs.ModularLaws.{modular_laws};
-ghost use Rattle.prime_field.specs.Proofs.Residues.{field_split};
 
 use crate::PrimeField;
 use algebra::Field;
@@ -11,7 +10,7 @@ impl Field for PrimeField {
 
     ghost ops = { λ f. modular f.modulus };
 
-    ghost laws = { λ f. modular_laws f.modulus (field_split f).prime f.odd };
+    ghost laws = { λ f. modular_laws f.modulus f.is_prime f.odd };
 
     fn contains(&self, a: u32) -> bool {
         a < self.modulus

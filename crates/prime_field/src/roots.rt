@@ -2,7 +2,6 @@
 ghost use Rattle.std.specs.Prelude.{◌<◌, MatchOption};
 ghost use Rattle.prime_field.specs.Exponents.{LeastExponent, NoExponent};
 ghost use Rattle.prime_field.specs.Proofs.ModularLaws.{modular_rooted};
-ghost use Rattle.prime_field.specs.Proofs.Residues.{field_split};
 
 use crate::PrimeField;
 use crate::arithmetic::Modulus;
@@ -32,7 +31,7 @@ impl Modulus {
 }
 
 impl RootedField for PrimeField {
-    ghost rooted = { λ f. modular_rooted f.modulus (field_split f).prime f.odd };
+    ghost rooted = { λ f. modular_rooted f.modulus f.is_prime f.odd };
 
     #[tactic(auto, using(crate::proofs::Rounds::round_none))]
     fn root(&self, a: u32) -> Option<u32> {

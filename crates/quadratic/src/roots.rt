@@ -2,7 +2,7 @@
 ghost use Rattle.std.specs.Prelude.{◌≡◌, MatchOption, ◌≢◌};
 ghost use Rattle.algebra.specs.Operations.{In};
 ghost use Rattle.algebra.specs.Roots.{AnswersRoot, RootOf, Square};
-ghost use Rattle.quadratic.specs.Pairs.{HalfSum, norm, pairs};
+ghost use Rattle.quadratic.specs.Pairs.{HalfSum, norm};
 ghost use Rattle.quadratic.specs.Proofs.PairRoots.{pair_rooted};
 
 use crate::extension::Quad;

@@ -19,7 +19,7 @@ pub record Split (p s t : ℕ) : Type 0 where
   pub rest : t % 2 ≡ 1
 
 pub field_split : (f : PrimeField) → Split f.modulus f.exponent f.cofactor
-field_split f = record { prime = record { above_one = f.above; undivided = f.undivided }; odd = f.odd; whole = f.whole; rest = f.rest }
+field_split f = record { prime = f.is_prime; odd = f.odd; whole = f.whole; rest = f.rest }
 
 pub listed_split : {p s t : ℕ} → Listed p → p - 1 ≡ 2 ^ s * t → t % 2 ≡ 1 → Split p s t
 listed_split {p} l w r =

@@ -10,8 +10,8 @@ returns-then-square_times-modulus c =
     let split = listed_split listed c.split_twos-exponent.ensures.whole c.split_twos-exponent.ensures.odd in
     (listed, residue split c.pow-generator.ensures.value c.square_times.ensures.value c.if-square_times-modulus.true)
 
-pub invariant_of-result-clause-undivided : goal.invariant_of-result-clause-undivided
-invariant_of-result-clause-undivided c = (listed_prime c.args.modulus (c.is_listed.ensures.0 c.if-not-is_listed.false)).undivided
+pub invariant_of-result-clause-is_prime : goal.invariant_of-result-clause-is_prime
+invariant_of-result-clause-is_prime c = listed_prime c.args.modulus (c.is_listed.ensures.0 c.if-not-is_listed.false)
 
 pub returns : goal.returns
 returns c =

@@ -19,7 +19,7 @@ pub loop-b-preserved : goal.loop-b-preserved
 loop-b-preserved c =
     round_next c.prime-p.result.value c.args.a c.loop-b.x c.loop-b.b c.loop-b.c c.loop-b.m c.in_ok-i.i _
     c.square_times-d.result c.product-x-in-loop-b.result c.product-c.result c.product-b-in-loop-b.result
-    (rw c.prime-p.ensures (field_split c.args.self.now).prime) c.loop-b.invariant c.loop-b-test.true c.in_ok-i.ensures c.square_times-d.ensures.value
+    (rw c.prime-p.ensures c.args.self.now.is_prime) c.loop-b.invariant c.loop-b-test.true c.in_ok-i.ensures c.square_times-d.ensures.value
     c.product-x-in-loop-b.ensures.value c.product-c.ensures.value c.product-b-in-loop-b.ensures.value
     (omega (arith, c.in_ok-i.ensures.below))
 
@@ -29,5 +29,5 @@ returns-else-sign-eq0 c =
     let x = c.loop-b.x in
     let square = round_last c.prime-p.result.value c.args.a x c.loop-b.b c.loop-b.c c.loop-b.m
     (rw c.prime-p.ensures (ltb-true c.args.a f.modulus c.requires)) c.loop-b.invariant c.loop-b-test.false in
-    negative_root (modular_laws f.modulus (field_split f).prime f.odd) c.args.a x _ (omega arith) (lt-ltb x f.modulus (omega (arith, c.loop-b.invariant.x_in)))
+    negative_root (modular_laws f.modulus f.is_prime f.odd) c.args.a x _ (omega arith) (lt-ltb x f.modulus (omega (arith, c.loop-b.invariant.x_in)))
     (rw c.prime-p.ensures at square) (λ even. c.if-sign-eq0.false (c.sign.ensures ∙ even))
