@@ -1,5 +1,5 @@
 -- What the laws give of products that are zero, and of two roots of one element.
-use Rattle.std.proofs.Common.{◌≡◌, Bool, true, false, ◌⊎◌, [], ◌∷◌, sym, refl, ap, ◌∙◌, subst, inl, inr, arith}
+use Rattle.std.proofs.Common.{◌≡◌, ◌≢◌, Bool, true, false, ◌⊎◌, [], ◌∷◌, sym, refl, ap, ◌∙◌, inl, inr, arith}
 use Rattle.algebra.specs.Operations.{Ops, In, minus}
 use Rattle.algebra.specs.Laws.{Arithmetic, Laws}
 use Rattle.std.proofs.lemmas.Bool.{cases_eq}
@@ -17,7 +17,7 @@ module _ {E : Type 0} {o : Ops E} (l : Arithmetic o) where
     where
       go : (s : Bool) → o.same a b ≡ s → (a ≡ b) ⊎ (a ≡ b → ⊥)
       go true e = inl (l.same_is a b ha hb e)
-      go false e = inr (λ q. let z : true ≡ false = sym (l.is_same a ha) ∙ ap (o.same a) q ∙ e in absurd (subst (λ s. elim s as (λ _. Type 0) [ true ↦ Unit {0} | false ↦ ⊥ ]) z tt))
+      go false e = inr (λ q. cc (l.is_same a ha))
 
   -- a difference that is zero
   pub minus_zero : (a b : E) → In o a → In o b → minus o a b ≡ zero → a ≡ b
@@ -45,7 +45,7 @@ module _ {E : Type 0} {o : Ops E} (l : Arithmetic o) where
           (by_ring_from l ((x, hx) ∷ (y, hy) ∷ []) (times l one e (search reads depth 40) (search reads depth 40) ∷ []) (search reads depth 40) refl)
           (λ z. n (minus_zero x y hx hy z))
 
-  neg_zero : neg zero ≡ zero
+  pub neg_zero : neg zero ≡ zero
   neg_zero = by_ring l [] (search reads depth 40) refl
 
 -- an element has one root at most
@@ -66,20 +66,18 @@ root_unique {o = o} laws a x y rx ry =
     l : Arithmetic o
     l = laws.arithmetic
 
+-- the negative of an element of another sign than 0 has the same square and sign 0
+pub negative_root : {E : Type 0} {o : Ops E} → Laws o → (a x y : E) → y ≡ o.neg x → In o x → o.mul x x ≡ a → o.sign x ≢ 0 → RootOf o a y
+negative_root {o = o} laws a x y is hx e odd = rw is (record {
+  inside = laws.arithmetic.neg_in x hx;
+  squares = by_ring laws.arithmetic ((x, hx) ∷ []) (search reads depth 40) refl ∙ e;
+  even = let one_sign = laws.signs.of_negative x hx (λ z. odd (ap o.sign z ∙ laws.signs.of_zero)) in omega arith;
+})
+
 -- of an element and its negative one has sign 0, so a square has a root
 pub square_has_root : {E : Type 0} {o : Ops E} → Laws o → (a : E) → Square o a → (x : E) × RootOf o a x
 square_has_root {o = o} laws a (x, hx, e) =
     elim (cases_eq (o.sign x) 0) [
       | inl even ↦ (x, record { inside = hx; squares = e; even = even })
-      | inr odd ↦ (
-        o.neg x,
-        record {
-          inside = l.neg_in x hx;
-          squares = by_ring l ((x, hx) ∷ []) (search reads depth 40) refl ∙ e;
-          even = let one_sign = laws.signs.of_negative x hx (λ z. odd (ap o.sign z ∙ laws.signs.of_zero)) in omega arith;
-        },
-      )
+      | inr odd ↦ (o.neg x, negative_root laws a x (o.neg x) refl hx e odd)
     ]
-  where
-    l : Arithmetic o
-    l = laws.arithmetic

@@ -1,7 +1,8 @@
 -- Commutative rings, and their equations by computation: two expressions are equal where their difference has the normal form zero.
-use Rattle.std.proofs.Common.{◌≡◌, ℕ, zero, suc, ◌+◌, ◌*◌, Bool, true, false, ◌&&◌, T, eqb, List, [], ◌∷◌, sym, refl, ap, ◌∙◌, subst, ap₂, add-zero, add-suc, mul-zero, mul-suc, eqb→eq}
+use Rattle.std.proofs.Common.{◌≡◌, ℕ, zero, suc, ◌+◌, ◌*◌, Bool, true, false, ◌&&◌, eqb, List, [], ◌∷◌, sym, refl, ap, ◌∙◌, ap₂, add-zero, add-suc, mul-zero, mul-suc}
 use Prim.Native.Nat.{compare, Ordering}
 use native.Mathlib.Omega.{compare-eq}
+use Rattle.std.proofs.lemmas.Bool.{and_parts, eqb-true}
 
 pub record CommutativeRing (A : Type 0) : Type 0 where
   pub 𝟘 : A
@@ -94,14 +95,6 @@ normal (⊝ e) = negate (normal e)
 -- the test
 abbrev pub same? : Expr → Expr → Bool
 same? e f = zero? (add (normal e) (negate (normal f)))
-
-and_left : (a b : Bool) → (a && b) ≡ true → a ≡ true
-and_left true b e = refl
-and_left false b e = e
-
-and_right : (a b : Bool) → (a && b) ≡ true → b ≡ true
-and_right true b e = e
-and_right false b e = absurd (subst T (sym e) tt)
 
 -- Values in a ring: ρ lists what the variables stand for.
 module _ {A : Type 0} (r : CommutativeRing A) where
@@ -291,7 +284,7 @@ module _ {A : Type 0} (r : CommutativeRing A) where
         go : (t : Bool) → eqb a b ≡ t → value r ρ (elim t [ true ↦ constant 0 0 | false ↦ scale a b p ]) ≡ integer a b · value r ρ p
         go true e =
             integer_zero 0 0 refl
-            ∙ sym (ap (λ z. z · value r ρ p) (integer_zero a b (eqb→eq a b (subst T (sym e) tt))) ∙ times_comm 𝟘 (value r ρ p) ∙ times_𝟘 (value r ρ p))
+            ∙ sym (ap (λ z. z · value r ρ p) (integer_zero a b (eqb-true a b e)) ∙ times_comm 𝟘 (value r ρ p) ∙ times_𝟘 (value r ρ p))
         go false e = scale_value a b p
 
     mul_variable_value : (i : ℕ) (p : Poly) → value r ρ (mul_variable i p) ≡ at r ρ i · value r ρ p
@@ -344,10 +337,10 @@ module _ {A : Type 0} (r : CommutativeRing A) where
 
     zero_value : (p : Poly) → zero? p ≡ true → value r ρ p ≡ 𝟘
     unfolding integer
-    zero_value (constant a b) e = integer_zero a b (eqb→eq a b (subst T (sym e) tt))
+    zero_value (constant a b) e = integer_zero a b (eqb-true a b e)
     zero_value (horner i p q) e =
-        ap₂ (λ u v. u ⊹ at r ρ i · v) (zero_value p (and_left (zero? p) (zero? q) e)) (zero_value q (and_right (zero? p) (zero? q) e))
-        ∙ 𝟘_plus (at r ρ i · 𝟘) ∙ times_𝟘 (at r ρ i)
+        let both = and_parts (zero? p) (zero? q) e in
+        ap₂ (λ u v. u ⊹ at r ρ i · v) (zero_value p both.0) (zero_value q both.1) ∙ 𝟘_plus (at r ρ i · 𝟘) ∙ times_𝟘 (at r ρ i)
 
     -- expressions that pass the test are equal in every ring
     pub solve : (e f : Expr) → same? e f ≡ true → eval r ρ e ≡ eval r ρ f

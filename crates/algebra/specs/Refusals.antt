@@ -1,8 +1,8 @@
--- What a field refuses: for each case its number and its layer; and when a root is refused.
+-- What a field refuses: for each case its number and its layer; and when a root is found or refused.
 -- When a field is not made, or not extended, stands with the calls that make it.
-use Rattle.std.specs.Prelude.{ℕ}
+use Rattle.std.specs.Prelude.{ℕ, Result, MatchResult}
 use Rattle.algebra.specs.Operations.{Ops, In}
-use Rattle.algebra.specs.Roots.{Square}
+use Rattle.algebra.specs.Roots.{Square, RootOf}
 use Rattle.algebra.specs.declared.faults.FieldFault.{FieldFault}
 use Rattle.algebra.specs.declared.faults.FieldFault.TheVariants.{UnlistedModulus, NotNonresidue, NotNonsquare, NotElement, NoRoot}
 use Rattle.algebra.specs.declared.faults.Layer.{Layer}
@@ -29,3 +29,7 @@ RefusesRoot o a NoRoot = In o a × (Square o a → ⊥)
 RefusesRoot o a UnlistedModulus = ⊥
 RefusesRoot o a NotNonresidue = ⊥
 RefusesRoot o a NotNonsquare = ⊥
+
+-- r answers the root of a value a that need not be an element
+abbrev pub FindsRoot : {E : Type 0} → Ops E → E → Result E FieldFault → Type 0
+FindsRoot o a r = MatchResult r (λ x. In o a × RootOf o a x) (RefusesRoot o a)

@@ -1,17 +1,16 @@
 -- The rounds that find a root: what they keep, and what they give at the end.
 use Rattle.std.proofs.Common.{◌≡◌, ℕ, zero, suc, ◌+◌, ◌-◌, ◌*◌, ◌%◌, ◌^◌, ◌<◌, ◌≢◌, sym, refl, ap, ◌∙◌, subst, inl, inr, arith, pow-add}
 use native.Mathlib.Nat as N
-use Rattle.std.proofs.lemmas.Bool.{cases_eq, lt-ltb}
-use Rattle.algebra.specs.Roots.{Square, RootOf}
+use Rattle.std.proofs.lemmas.Bool.{cases_eq}
+use Rattle.algebra.specs.Roots.{Square}
+use Rattle.std.proofs.lemmas.Nat.{mul-mod_first, mul-mod_second}
 use Rattle.prime_field.specs.Primes.{Prime}
 use Rattle.prime_field.specs.Modular.{power, modular}
 use Rattle.prime_field.specs.Exponents.{NoExponent, LeastExponent}
-use Rattle.prime_field.specs.declared.PrimeField.{PrimeField}
-use Rattle.prime_field.specs.Proofs.Congruences.{mod_eq, mul_congr, mod_mul_left, mod_mul_right, add_cancel}
+use Rattle.prime_field.specs.Proofs.Congruences.{mod_eq, mul_congr, add_cancel}
 use Rattle.prime_field.specs.Proofs.Euclid.{euclid}
-use Rattle.prime_field.specs.Proofs.UnitProducts.{negative_square}
 use Rattle.prime_field.specs.Proofs.Euler.{minus_one_squared}
-use Rattle.prime_field.specs.Proofs.Residues.{Split, field_split, exponent_pos, double, square_order}
+use Rattle.prime_field.specs.Proofs.Residues.{Split, exponent_pos, double, square_order}
 use Rattle.prime_field.specs.Proofs.Powers.{power_lt, power_one, power_add, power_suc, power_power, mul_power, square_power}
 
 -- 1 and - 1 are the only numbers whose square is 1
@@ -43,40 +42,31 @@ pub record Round (p a x b c m : ℕ) : Type 0 where
   pub c_order : power p c (2 ^ (m - 1)) ≡ p - 1
   pub b_order : Square (modular p) a → power p b (2 ^ (m - 1)) ≡ 1
 
-pub round_first : (f : PrimeField) (a k w x b : ℕ) → 0 < a → a < f.modulus → w ≡ power f.modulus a k → x ≡ (a * w) % f.modulus →
-    b ≡ (x * w) % f.modulus → k + k + 1 ≡ f.cofactor → Round f.modulus a x b f.generator f.exponent
-round_first f a k w x b pa la ew ex eb q =
+pub round_first : {p s t : ℕ} → Split p s t → (a k w x b g : ℕ) → g < p → power p g (2 ^ (s - 1)) ≡ p - 1 → 0 < a → a < p →
+    w ≡ power p a k → x ≡ (a * w) % p → b ≡ (x * w) % p → k + k + 1 ≡ t → Round p a x b g s
+round_first {p} {s} {t} h a k w x b g lg order pa la ew ex eb q =
     record {
       x_in = subst (λ (v : ℕ). v < p) (sym ex) (N.mod-lt (a * w) pos);
       b_in = subst (λ (v : ℕ). v < p) (sym eb) (N.mod-lt (x * w) pos);
-      c_in = f.inside;
+      c_in = lg;
       more = exponent_pos h;
       square = square;
-      c_order = f.order;
+      c_order = order;
       b_order = square_order h a b b_power pa la;
     }
   where
-    p : ℕ
-    p = f.modulus
-
-    t : ℕ
-    t = f.cofactor
-
-    h : Split p f.exponent t
-    h = field_split f
-
     pos : 0 < p
     pos = omega arith
 
     square : (x * x) % p ≡ (a * b) % p
     square =
-        ap (λ (v : ℕ). (x * v) % p) ex ∙ mod_mul_right x (a * w) p ∙ mod_eq p (N.mul_left_comm x a w)
-        ∙ sym (mod_mul_right a (x * w) p) ∙ ap (λ (v : ℕ). (a * v) % p) (sym eb)
+        ap (λ (v : ℕ). (x * v) % p) ex ∙ mul-mod_second x (a * w) p ∙ mod_eq p (N.mul_left_comm x a w)
+        ∙ sym (mul-mod_second a (x * w) p) ∙ ap (λ (v : ℕ). (a * v) % p) (sym eb)
 
     b_power : b ≡ power p a t
     b_power =
         let g : a * w * w ≡ w * w * a = omega arith in
-        eb ∙ ap (λ (v : ℕ). (v * w) % p) ex ∙ mod_mul_left (a * w) w p ∙ mod_eq p g ∙ sym (mod_mul_left (w * w) a p)
+        eb ∙ ap (λ (v : ℕ). (v * w) % p) ex ∙ mul-mod_first (a * w) w p ∙ mod_eq p g ∙ sym (mul-mod_first (w * w) a p)
         ∙ ap (λ (v : ℕ). ((v * v) % p * a) % p) ew ∙ ap (λ (v : ℕ). (v * a) % p) (power_add p a k k) ∙ power_suc p a (k + k)
         ∙ ap (λ (v : ℕ). power p a v) q
 
@@ -117,7 +107,7 @@ round_next p a x b c m i n d x' c' b' P r nb l ed ex ec eb em =
         ∙ mod_eq p (N.mul-mul-mul_comm x d x d)
         ∙ mul_congr p (x * x) (a * b) (d * d) c' r.square (sym (mod_eq p ec ∙ N.mod-mod (d * d) p))
         ∙ mod_eq p (N.mul_assoc a b c')
-        ∙ sym (mod_mul_right a (b * c') p) ∙ ap (λ (v : ℕ). (a * v) % p) (sym eb)
+        ∙ sym (mul-mod_second a (b * c') p) ∙ ap (λ (v : ℕ). (a * v) % p) (sym eb)
 
     c_order : power p c' (2 ^ (i - 1)) ≡ p - 1
     c_order =
@@ -140,9 +130,3 @@ round_next p a x b c m i n d x' c' b' P r nb l ed ex ec eb em =
 -- b is 1: x or its negative is the root
 pub round_last : (p a x b c m : ℕ) → a < p → Round p a x b c m → b ≡ 1 → (x * x) % p ≡ a
 round_last p a x b c m la r e = r.square ∙ ap (λ (v : ℕ). (a * v) % p) e ∙ mod_eq p (N.mul-one a) ∙ N.mod-eq_of_lt la
-
-pub even_root : (p a x : ℕ) → x < p → (x * x) % p ≡ a → x % 2 ≡ 0 → RootOf (modular p) a x
-even_root p a x lx e even = record { inside = lt-ltb x p lx; squares = e; even = even }
-
-pub negative_root : (p a x y : ℕ) → 0 < x → (x * x) % p ≡ a → x + y ≡ p → y % 2 ≡ 0 → RootOf (modular p) a y
-negative_root p a x y pos e d even = even_root p a y (omega arith) (negative_square p x y d ∙ e) even

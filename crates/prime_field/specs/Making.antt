@@ -3,7 +3,8 @@ use Rattle.std.specs.Prelude.{◌≡◌, ℕ, ◌<◌, ◌⊎◌}
 use Rattle.algebra.specs.Roots.{Square}
 use Rattle.algebra.specs.declared.faults.FieldFault.{FieldFault}
 use Rattle.algebra.specs.declared.faults.FieldFault.TheVariants.{UnlistedModulus, NotNonresidue, NotNonsquare, NotElement, NoRoot}
-use Rattle.prime_field.specs.Modular.{modular}
+use Rattle.prime_field.specs.Modular.{power, modular}
+use Rattle.prime_field.specs.declared.PrimeField.{PrimeField}
 
 -- the moduli that a field is made of
 abbrev pub Listed : ℕ → Type 0
@@ -14,6 +15,10 @@ pub record Nonresidue (p r : ℕ) : Type 0 where
   pub positive : 0 < r
   pub inside : r < p
   pub rootless : Square (modular p) r → ⊥
+
+-- f is the field that is made of p and r
+abbrev pub MadeOf : ℕ → ℕ → PrimeField → Type 0
+MadeOf p r f = Listed p × Nonresidue p r × (f.modulus ≡ p) × (f.generator ≡ power p r f.cofactor)
 
 -- why no field is made of p and r
 abbrev pub RefusesMaking : ℕ → ℕ → FieldFault → Type 0

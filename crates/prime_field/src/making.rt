@@ -1,10 +1,9 @@
 // Making a field of a listed prime and a nonresidue.
 ghost use Rattle.std.specs.Prelude.{◌≡◌, ◌*◌, ◌%◌, ◌^◌, ◌<◌, Decides, MatchResult};
-ghost use Rattle.prime_field.specs.Making.{Listed, Nonresidue, RefusesMaking};
-ghost use Rattle.prime_field.specs.Modular.{power};
+ghost use Rattle.prime_field.specs.Making.{Listed, MadeOf, RefusesMaking};
 
 use crate::PrimeField;
-use crate::arithmetic::{pow, square_times};
+use crate::arithmetic::Modulus;
 use algebra::FieldFault;
 
 // Whether p is one of the moduli that a field is made of.
@@ -15,24 +14,20 @@ pub fn is_listed(p: u32) -> bool
 }
 
 // n as a power of two times an odd number: the exponent and the odd number.
+#[tactic(auto, using(crate::proofs::Squaring::splits))]
 fn split_twos(n: u32) -> (u32, u32)
     requires { 0 < n }
     ensures whole { n ≡ 2 ^ result.0 * result.1 }
     ensures odd { result.1 % 2 ≡ 1 }
 {
-    let mut s = 0;
-    let mut t = n;
-    while t % 2 == 0 {
-        t /= 2;
-        s += 1;
-    }
-    (s, t)
+    let exponent = n.trailing_zeros();
+    (exponent, n >> exponent)
 }
 
 impl PrimeField {
     // The field of a listed modulus, with a number that has no root in it.
     pub fn new(modulus: u32, nonresidue: u32) -> Result<PrimeField, FieldFault>
-        ensures { MatchResult result (λ f. Listed modulus × Nonresidue modulus nonresidue × (f.modulus ≡ modulus) × (f.generator ≡ power modulus nonresidue f.cofactor)) (RefusesMaking modulus nonresidue) }
+        ensures { MatchResult result (MadeOf modulus nonresidue) (RefusesMaking modulus nonresidue) }
     {
         if !is_listed(modulus) {
             return Err(FieldFault::UnlistedModulus);
@@ -40,10 +35,11 @@ impl PrimeField {
         if nonresidue == 0 || nonresidue >= modulus {
             return Err(FieldFault::NotNonresidue);
         }
+        let p = Modulus { value: modulus };
         let (exponent, cofactor) = split_twos(modulus - 1);
-        let generator = pow(modulus, nonresidue, cofactor);
+        let generator = p.pow(nonresidue, cofactor);
         // Euler's criterion: the power (modulus - 1) / 2 of a nonresidue is -1, and that of a residue is 1.
-        if square_times(modulus, generator, exponent - 1) != modulus - 1 {
+        if p.square_times(generator, exponent - 1) != modulus - 1 {
             return Err(FieldFault::NotNonresidue);
         }
         Ok(PrimeField {

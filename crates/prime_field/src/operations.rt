@@ -1,10 +1,8 @@
 // The field's operations, those of arithmetic modulo its prime.
 ghost use Rattle.prime_field.specs.Modular.{modular};
 ghost use Rattle.prime_field.specs.Proofs.ModularLaws.{modular_laws};
-ghost use Rattle.prime_field.specs.Proofs.Residues.{field_split};
 
 use crate::PrimeField;
-use crate::arithmetic::{negative, pow, product, sum};
 use algebra::Field;
 
 impl Field for PrimeField {
@@ -12,7 +10,7 @@ impl Field for PrimeField {
 
     ghost ops = { λ f. modular f.modulus };
 
-    ghost laws = { λ f. modular_laws f.modulus (field_split f).prime f.odd };
+    ghost laws = { λ f. modular_laws f.modulus f.is_prime f.odd };
 
     fn contains(&self, a: u32) -> bool {
         a < self.modulus
@@ -31,19 +29,19 @@ impl Field for PrimeField {
     }
 
     fn add(&self, a: u32, b: u32) -> u32 {
-        sum(self.modulus, a, b)
+        self.prime().sum(a, b)
     }
 
     fn mul(&self, a: u32, b: u32) -> u32 {
-        product(self.modulus, a, b)
+        self.prime().product(a, b)
     }
 
     fn neg(&self, a: u32) -> u32 {
-        negative(self.modulus, a)
+        self.prime().negative(a)
     }
 
     fn inv(&self, a: u32) -> u32 {
-        pow(self.modulus, a, self.modulus - 2)
+        self.prime().pow(a, self.modulus - 2)
     }
 
     fn sign(&self, a: u32) -> u8 {

@@ -8,10 +8,7 @@ use std::test::Fail;
 fn field(modulus: u32, nonresidue: u32) -> Result<PrimeField, Fail>
     ensures { IfOk result (λ f. f.modulus ≡ modulus) }
 {
-    match PrimeField::new(modulus, nonresidue) {
-        Ok(f) => Ok(f),
-        Err(_) => Err(Fail::new("no field")),
-    }
+    PrimeField::new(modulus, nonresidue).map_err(|_| Fail::new("no field"))
 }
 
 #[test]
@@ -33,20 +30,16 @@ fn rounds(rt: HostRuntime) -> Result<(), Fail> {
 
 #[test]
 fn makings(rt: HostRuntime) {
-    assert!(rt; matches!(PrimeField::new(2, 1), Err(FieldFault::UnlistedModulus)));
-    assert!(rt; matches!(PrimeField::new(9, 2), Err(FieldFault::UnlistedModulus)));
-    assert!(rt;
-        matches!(
-            PrimeField::new(4294967295, 2),
-            Err(FieldFault::UnlistedModulus)
-        )
+    assert_eq!(rt; PrimeField::new(2, 1), Err(FieldFault::UnlistedModulus));
+    assert_eq!(rt; PrimeField::new(9, 2), Err(FieldFault::UnlistedModulus));
+    assert_eq!(rt;
+        PrimeField::new(4294967295, 2),
+        Err(FieldFault::UnlistedModulus)
     );
     assert!(rt; PrimeField::new(3, 2).is_ok());
     assert!(rt; PrimeField::new(4294967291, 2).is_ok());
-    assert!(rt;
-        matches!(
-            PrimeField::new(4294967291, 4),
-            Err(FieldFault::NotNonresidue)
-        )
+    assert_eq!(rt;
+        PrimeField::new(4294967291, 4),
+        Err(FieldFault::NotNonresidue)
     );
 }

@@ -15,45 +15,45 @@ impl<F: RootedField> Field for Quad<F> {
 
     ghost laws = { λ q. pair_laws (F.Field.laws q.base) q.beta q.nonsquare };
 
-    fn contains(&self, a: (F::Elem, F::Elem)) -> bool {
+    fn contains(&self, a: Self::Elem) -> bool {
         self.base.contains(a.0) && self.base.contains(a.1)
     }
 
-    fn equal(&self, a: (F::Elem, F::Elem), b: (F::Elem, F::Elem)) -> bool {
+    fn equal(&self, a: Self::Elem, b: Self::Elem) -> bool {
         self.base.equal(a.0, b.0) && self.base.equal(a.1, b.1)
     }
 
-    fn zero(&self) -> (F::Elem, F::Elem) {
+    fn zero(&self) -> Self::Elem {
         (self.base.zero(), self.base.zero())
     }
 
-    fn one(&self) -> (F::Elem, F::Elem) {
+    fn one(&self) -> Self::Elem {
         (self.base.one(), self.base.zero())
     }
 
-    fn add(&self, a: (F::Elem, F::Elem), b: (F::Elem, F::Elem)) -> (F::Elem, F::Elem) {
+    fn add(&self, a: Self::Elem, b: Self::Elem) -> Self::Elem {
         (self.base.add(a.0, b.0), self.base.add(a.1, b.1))
     }
 
-    fn mul(&self, a: (F::Elem, F::Elem), b: (F::Elem, F::Elem)) -> (F::Elem, F::Elem) {
+    fn mul(&self, a: Self::Elem, b: Self::Elem) -> Self::Elem {
         let f = &self.base;
         let low = f.add(f.mul(a.0, b.0), f.mul(self.beta, f.mul(a.1, b.1)));
         let high = f.add(f.mul(a.0, b.1), f.mul(a.1, b.0));
         (low, high)
     }
 
-    fn neg(&self, a: (F::Elem, F::Elem)) -> (F::Elem, F::Elem) {
+    fn neg(&self, a: Self::Elem) -> Self::Elem {
         (self.base.neg(a.0), self.base.neg(a.1))
     }
 
     // The conjugate a0 - a1·y over the norm: one inverse below.
-    fn inv(&self, a: (F::Elem, F::Elem)) -> (F::Elem, F::Elem) {
+    fn inv(&self, a: Self::Elem) -> Self::Elem {
         let f = &self.base;
         let over = f.inv(self.norm(a));
         (f.mul(a.0, over), f.mul(f.neg(a.1), over))
     }
 
-    fn sign(&self, a: (F::Elem, F::Elem)) -> u8 {
+    fn sign(&self, a: Self::Elem) -> u8 {
         if self.base.equal(a.0, self.base.zero()) {
             self.base.sign(a.1)
         } else {
@@ -65,7 +65,7 @@ impl<F: RootedField> Field for Quad<F> {
 impl<F: RootedField> Quad<F> {
     // a0² - beta·a1²
     pub(crate) fn norm(&self, a: (F::Elem, F::Elem)) -> F::Elem
-        requires { In (pairs (F.Field.ops self.now.base) self.now.beta) a }
+        requires { In (⟦<Quad<F> as Field>⟧.ops self.now) a }
         ensures value { result ≡ norm (F.Field.ops self.now.base) self.now.beta a }
         ensures inside { In (F.Field.ops self.now.base) result }
     {

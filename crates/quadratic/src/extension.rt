@@ -6,7 +6,7 @@ ghost use Rattle.quadratic.specs.Refusals.{RefusesExtension};
 use algebra::{Field, FieldFault, RootedField};
 
 // The extension of `base` by the root of `beta`, which has none in `base`.
-#[derive(Drop)]
+#[derive(Drop, PartialEq, Eq, Debug)]
 pub struct Quad<F: RootedField> {
     pub(crate) base: F,
     pub(crate) beta: F::Elem,
@@ -14,7 +14,7 @@ pub struct Quad<F: RootedField> {
 }
 
 // An extension that was refused: why, and the field as it was.
-#[derive(Drop)]
+#[derive(Drop, PartialEq, Eq, Debug)]
 pub struct Unextended<F> {
     pub fault: FieldFault,
     pub base: F,

@@ -2,7 +2,7 @@
 ghost use Rattle.std.specs.Prelude.{◌≡◌, MatchOption, ◌≢◌};
 ghost use Rattle.algebra.specs.Operations.{In};
 ghost use Rattle.algebra.specs.Roots.{AnswersRoot, RootOf, Square};
-ghost use Rattle.quadratic.specs.Pairs.{HalfSum, norm, pairs};
+ghost use Rattle.quadratic.specs.Pairs.{HalfSum, norm};
 ghost use Rattle.quadratic.specs.Proofs.PairRoots.{pair_rooted};
 
 use crate::extension::Quad;
@@ -11,7 +11,7 @@ use algebra::{Field, RootedField};
 impl<F: RootedField> RootedField for Quad<F> {
     ghost rooted = { λ q. pair_rooted (F.Field.laws q.base) q.beta q.nonsquare (F.RootedField.rooted q.base) };
 
-    fn root(&self, a: (F::Elem, F::Elem)) -> Option<(F::Elem, F::Elem)> {
+    fn root(&self, a: Self::Elem) -> Option<Self::Elem> {
         let f = &self.base;
         if f.equal(a.1, f.zero()) {
             return self.root_of_low(a.0);
@@ -26,7 +26,7 @@ impl<F: RootedField> Quad<F> {
     // The root of (a0, 0): a0 or a0/beta is a square below.
     fn root_of_low(&self, a0: F::Elem) -> Option<(F::Elem, F::Elem)>
         requires { In (F.Field.ops self.now.base) a0 }
-        ensures { AnswersRoot (pairs (F.Field.ops self.now.base) self.now.beta) (a0, (F.Field.ops self.now.base).zero) result }
+        ensures { AnswersRoot (⟦<Quad<F> as Field>⟧.ops self.now) (a0, (F.Field.ops self.now.base).zero) result }
     {
         let f = &self.base;
         if let Some(r) = f.root(a0) {
@@ -38,10 +38,10 @@ impl<F: RootedField> Quad<F> {
 
     // The root of a, where a1 is not zero and d is a root of the norm: (a0 + d)/2 or (a0 - d)/2 is a square below.
     fn root_by_norm(&self, a: (F::Elem, F::Elem), d: F::Elem) -> Option<(F::Elem, F::Elem)>
-        requires element { In (pairs (F.Field.ops self.now.base) self.now.beta) a }
+        requires element { In (⟦<Quad<F> as Field>⟧.ops self.now) a }
         requires high { a.1 ≢ (F.Field.ops self.now.base).zero }
         requires root { RootOf (F.Field.ops self.now.base) (norm (F.Field.ops self.now.base) self.now.beta a) d }
-        ensures { AnswersRoot (pairs (F.Field.ops self.now.base) self.now.beta) a result }
+        ensures { AnswersRoot (⟦<Quad<F> as Field>⟧.ops self.now) a result }
     {
         let f = &self.base;
         let half = f.inv(f.add(f.one(), f.one()));
@@ -53,11 +53,11 @@ impl<F: RootedField> Quad<F> {
 
     // The root of a with the root x0 of the half sum t as first half; the second is then a1/(2·x0).
     fn root_by_half_sum(&self, a: (F::Elem, F::Elem), t: F::Elem) -> Option<(F::Elem, F::Elem)>
-        requires element { In (pairs (F.Field.ops self.now.base) self.now.beta) a }
+        requires element { In (⟦<Quad<F> as Field>⟧.ops self.now) a }
         requires high { a.1 ≢ (F.Field.ops self.now.base).zero }
         requires inside { In (F.Field.ops self.now.base) t }
         requires sum { HalfSum (F.Field.ops self.now.base) self.now.beta a t }
-        ensures { MatchOption result (Square (F.Field.ops self.now.base) t → ⊥) (RootOf (pairs (F.Field.ops self.now.base) self.now.beta) a) }
+        ensures { MatchOption result (Square (F.Field.ops self.now.base) t → ⊥) (RootOf (⟦<Quad<F> as Field>⟧.ops self.now) a) }
     {
         let f = &self.base;
         let x0 = f.root(t)?;

@@ -10,6 +10,7 @@ pub fn tower_keeps_laws<F: RootedField>(field: &F)
 {}
 
 // In every tower above numbers the sign of an element is the sgn0 of its coordinates.
+#[tactic(auto, using(crate::proofs::Heights::signs_are_sgn0))]
 pub fn tower_signs_are_sgn0()
     ensures { SignsByCoordinates sgn0 }
 {}

@@ -4,8 +4,9 @@ use Rattle.std.proofs.Common.{sym, ◌∙◌, ap, inl, inr, mod-eq_of_lt, mod-lt
 use Rattle.std.proofs.Math.Nat as N
 use Rattle.std.proofs.Math.Nat.{zero-mod, mul-mod_left, div-add-mod, add-mod-mod}
 use Rattle.std.proofs.lemmas.Bool.{cases_eq}
+use Rattle.std.proofs.lemmas.Nat.{mul-mod_first}
 use Rattle.prime_field.specs.Primes.{Prime}
-use Rattle.prime_field.specs.Proofs.Congruences.{mod_eq, mod_mul_left, mul_congr}
+use Rattle.prime_field.specs.Proofs.Congruences.{mod_eq, mul_congr}
 
 -- a number above 1 and below a prime does not divide it
 remains : {p : ℕ} → Prime p → (a : ℕ) → 1 < a → a < p → p % a ≢ 0
@@ -61,7 +62,7 @@ pub mul_cancel : {p : ℕ} → Prime p → (a b c : ℕ) → 0 < a → a < p →
 mul_cancel {p} P a b c pos lt e =
     let (i, w) = inverse P a pos lt in
     let back : (y : ℕ) → (i * (a * y)) % p ≡ y % p = λ y.
-    mod_eq p (sym (N.mul_assoc i a y) ∙ ap (λ (v : ℕ). v * y) (N.mul_comm i a)) ∙ sym (mod_mul_left (a * i) y p)
+    mod_eq p (sym (N.mul_assoc i a y) ∙ ap (λ (v : ℕ). v * y) (N.mul_comm i a)) ∙ sym (mul-mod_first (a * i) y p)
     ∙ ap (λ (v : ℕ). (v * y) % p) w ∙ mod_eq p (N.one-mul y) in
     sym (back b) ∙ mul_congr p i i (a * b) (a * c) refl e ∙ back c
 
@@ -72,5 +73,5 @@ euclid {p} P a b e =
       | inl z ↦ inl z
       | inr n ↦
           inr (mul_cancel P (a % p) b 0 (omega arith) (mod-lt a (omega (arith, P.above_one)))
-          (mod_mul_left a b p ∙ e ∙ sym (zero-mod p) ∙ mod_eq p (sym (N.mul-zero (a % p)))) ∙ zero-mod p)
+          (mul-mod_first a b p ∙ e ∙ sym (zero-mod p) ∙ mod_eq p (sym (N.mul-zero (a % p)))) ∙ zero-mod p)
     ]

@@ -8,9 +8,10 @@ use Rattle.algebra.specs.Operations.{In}
 use Rattle.algebra.specs.Roots.{Square, Rooted}
 use Rattle.algebra.specs.Laws.{Arithmetic, SquareLaw, SignLaw, Laws}
 use Rattle.algebra.proofs.Products.{square_has_root}
+use Rattle.std.proofs.lemmas.Nat.{mul-mod_first, mul-mod_second}
 use Rattle.prime_field.specs.Primes.{Prime}
 use Rattle.prime_field.specs.Modular.{power, modular}
-use Rattle.prime_field.specs.Proofs.Congruences.{mod_eq, mod_mul_left, mod_mul_right}
+use Rattle.prime_field.specs.Proofs.Congruences.{mod_eq}
 use Rattle.prime_field.specs.Proofs.Euler.{euler, minus_one_squared}
 use Rattle.prime_field.specs.Proofs.Powers.{power_lt, power_inverse, zero_power, mul_power}
 
@@ -20,16 +21,6 @@ module _ (p : ℕ) (P : Prime p) (odd : p % 2 ≡ 1) where
 
   reduced : (a : ℕ) → In (modular p) (a % p)
   reduced a = lt-ltb (a % p) p (mod-lt a (omega (arith, two)))
-
-  add_assoc : (a b c : ℕ) → ((a + b) % p + c) % p ≡ (a + (b + c) % p) % p
-  add_assoc a b c = mod-add-mod (a + b) p c ∙ mod_eq p (N.add_assoc a b c) ∙ sym (add-mod-mod a (b + c) p)
-
-  mul_assoc : (a b c : ℕ) → ((a * b) % p * c) % p ≡ (a * ((b * c) % p)) % p
-  mul_assoc a b c = mod_mul_left (a * b) c p ∙ mod_eq p (N.mul_assoc a b c) ∙ sym (mod_mul_right a (b * c) p)
-
-  mul_add : (a b c : ℕ) → (a * ((b + c) % p)) % p ≡ ((a * b) % p + (a * c) % p) % p
-  mul_add a b c =
-      mod_mul_right a (b + c) p ∙ mod_eq p (N.mul-add a b c) ∙ sym (mod-add-mod (a * b) p (a * c)) ∙ sym (add-mod-mod (a * b % p) (a * c) p)
 
   add_neg : (a : ℕ) → a < p → (a + (p - a) % p) % p ≡ 0
   add_neg a h =
@@ -51,10 +42,10 @@ module _ (p : ℕ) (P : Prime p) (odd : p % 2 ≡ 1) where
         same_is = λ a b _ _ e. eqb-true a b e;
         is_same = λ a _. eq-eqb a a refl;
         add_comm = λ a b _ _. mod_eq p (N.add_comm a b);
-        add_assoc = λ a b c _ _ _. add_assoc a b c;
+        add_assoc = λ a b c _ _ _. simp (mod-add-mod, add-mod-mod, N.add_assoc);
         mul_comm = λ a b _ _. mod_eq p (N.mul_comm a b);
-        mul_assoc = λ a b c _ _ _. mul_assoc a b c;
-        mul_add = λ a b c _ _ _. mul_add a b c;
+        mul_assoc = λ a b c _ _ _. simp (mul-mod_first, mul-mod_second, N.mul_assoc);
+        mul_add = λ a b c _ _ _. simp (mul-mod_second, N.mul-add, mod-add-mod, add-mod-mod);
         add_zero = λ a h. mod_eq p (N.add-zero a) ∙ mod-eq_of_lt (ltb-true a p h);
         mul_one = λ a h. mod_eq p (N.mul-one a) ∙ mod-eq_of_lt (ltb-true a p h);
         add_neg = λ a h. add_neg a (ltb-true a p h);

@@ -2,21 +2,16 @@
 use Rattle.std.specs.Prelude.{◌≡◌, ℕ, zero, suc, ◌+◌, ◌-◌, ◌*◌, ◌%◌, ◌^◌, ◌<◌}
 use Rattle.std.proofs.Common.{sym, ◌∙◌, ap, arith, pow-add}
 use Rattle.std.proofs.Math.Nat as N
+use Rattle.std.proofs.lemmas.Nat.{mul-mod, mul-mod_first, mul-pow, pow-mod}
 use Rattle.prime_field.specs.Primes.{Prime}
 use Rattle.prime_field.specs.Modular.{power}
-use Rattle.prime_field.specs.Proofs.Congruences.{mod_eq, mul_congr, pow_congr, mod_mul_left}
+use Rattle.prime_field.specs.Proofs.Congruences.{mod_eq}
 use Rattle.prime_field.specs.Proofs.Euler.{fermat}
 
 pow_mul : (a m n : ℕ) → a ^ (m * n) ≡ (a ^ m) ^ n
 pow_mul a m zero = ap (λ (v : ℕ). a ^ v) (N.mul-zero m) ∙ N.pow-zero a ∙ sym (N.pow-zero (a ^ m))
 pow_mul a m (suc n) =
     ap (λ (v : ℕ). a ^ v) (N.mul-suc m n) ∙ pow-add a (m * n) m ∙ ap (λ (v : ℕ). v * a ^ m) (pow_mul a m n) ∙ sym (N.pow-suc (a ^ m) n)
-
-mul_pow : (a b n : ℕ) → (a * b) ^ n ≡ a ^ n * b ^ n
-mul_pow a b zero = N.pow-zero (a * b) ∙ sym (ap (λ (v : ℕ). v * b ^ 0) (N.pow-zero a) ∙ N.one-mul (b ^ 0) ∙ N.pow-zero b)
-mul_pow a b (suc n) =
-    N.pow-suc (a * b) n ∙ ap (λ (v : ℕ). v * (a * b)) (mul_pow a b n) ∙ N.mul-mul-mul_comm (a ^ n) (b ^ n) a b
-    ∙ ap (λ (v : ℕ). v * (b ^ n * b)) (sym (N.pow-suc a n)) ∙ ap (λ (v : ℕ). a ^ suc n * v) (sym (N.pow-suc b n))
 
 pub power_lt : (p a n : ℕ) → 0 < p → power p a n < p
 unfolding power
@@ -34,22 +29,22 @@ pub power_suc : (p a n : ℕ) → (power p a n * a) % p ≡ power p a (n + 1)
 unfolding power
 power_suc p a n =
     let e : suc n ≡ n + 1 = omega arith in
-    mod_mul_left (a ^ n) a p ∙ mod_eq p (sym (N.pow-suc a n) ∙ ap (λ (v : ℕ). a ^ v) e)
+    mul-mod_first (a ^ n) a p ∙ mod_eq p (sym (N.pow-suc a n) ∙ ap (λ (v : ℕ). a ^ v) e)
 
 pub power_add : (p a m n : ℕ) → (power p a m * power p a n) % p ≡ power p a (m + n)
 unfolding power
 power_add p a m n =
-    mul_congr p (a ^ m % p) (a ^ m) (a ^ n % p) (a ^ n) (N.mod-mod (a ^ m) p) (N.mod-mod (a ^ n) p) ∙ mod_eq p (sym (pow-add a m n))
+    sym (mul-mod (a ^ m) (a ^ n) p) ∙ mod_eq p (sym (pow-add a m n))
 
 pub power_power : (p a m n : ℕ) → power p (power p a m) n ≡ power p a (m * n)
 unfolding power
-power_power p a m n = pow_congr p (a ^ m % p) (a ^ m) n (N.mod-mod (a ^ m) p) ∙ mod_eq p (sym (pow_mul a m n))
+power_power p a m n = pow-mod (a ^ m) n p ∙ mod_eq p (sym (pow_mul a m n))
 
 pub mul_power : (p a b n : ℕ) → power p ((a * b) % p) n ≡ (power p a n * power p b n) % p
 unfolding power
 mul_power p a b n =
-    pow_congr p ((a * b) % p) (a * b) n (N.mod-mod (a * b) p) ∙ mod_eq p (mul_pow a b n)
-    ∙ sym (mul_congr p (a ^ n % p) (a ^ n) (b ^ n % p) (b ^ n) (N.mod-mod (a ^ n) p) (N.mod-mod (b ^ n) p))
+    pow-mod (a * b) n p ∙ mod_eq p (mul-pow a b n)
+    ∙ mul-mod (a ^ n) (b ^ n) p
 
 pub square_power : (p a n : ℕ) → power p ((a * a) % p) n ≡ power p a (n + n)
 square_power p a n = mul_power p a a n ∙ power_add p a n n

@@ -19,10 +19,10 @@ pub record Split (p s t : ℕ) : Type 0 where
   pub rest : t % 2 ≡ 1
 
 pub field_split : (f : PrimeField) → Split f.modulus f.exponent f.cofactor
-field_split f = record { prime = record { above_one = f.above; undivided = f.undivided }; odd = f.odd; whole = f.whole; rest = f.rest }
+field_split f = record { prime = f.is_prime; odd = f.odd; whole = f.whole; rest = f.rest }
 
-pub listed_split : (p s t : ℕ) → Listed p → p - 1 ≡ 2 ^ s * t → t % 2 ≡ 1 → Split p s t
-listed_split p s t l w r =
+pub listed_split : {p s t : ℕ} → Listed p → p - 1 ≡ 2 ^ s * t → t % 2 ≡ 1 → Split p s t
+listed_split {p} l w r =
     let P = listed_prime p l in
     record { prime = P; odd = listed_odd p l; whole = omega (arith, P.above_one); rest = r }
 
@@ -47,16 +47,16 @@ pub square_order : {p s t : ℕ} → Split p s t → (a b : ℕ) → b ≡ power
 square_order h a b eb pos lt r =
     elim (euler h.prime h.odd a pos lt) [ inl y ↦ euler_power h a b eb ∙ y.1 | inr n ↦ absurd (n.0 r) ]
 
-pub nonresidue : {p s t : ℕ} → Split p s t → (r c : ℕ) → c ≡ power p r t → 0 < r → r < p → power p c (2 ^ (s - 1)) ≡ p - 1 → Nonresidue p r
-nonresidue {p} h r c ec pos lt e =
+pub nonresidue : {p s t r c z : ℕ} → Split p s t → c ≡ power p r t → z ≡ power p c (2 ^ (s - 1)) → z ≡ p - 1 → 0 < r → r < p → Nonresidue p r
+nonresidue {r = r} {c} h ec ez e pos lt =
     record {
       positive = pos;
       inside = lt;
       rootless = λ y.
-          let k : p - 1 ≡ 1 = sym e ∙ square_order h r c ec pos lt y in
+          let k = square_order h r c ec pos lt y in
           omega (arith, h.odd);
     }
 
-pub residue : {p s t : ℕ} → Split p s t → (r c : ℕ) → c ≡ power p r t → power p c (2 ^ (s - 1)) ≢ p - 1 → Nonresidue p r → ⊥
-residue h r c ec ne n =
-    elim (euler h.prime h.odd r n.positive n.inside) [ inl y ↦ n.rootless y.0 | inr m ↦ ne (euler_power h r c ec ∙ m.1) ]
+pub residue : {p s t r c z : ℕ} → Split p s t → c ≡ power p r t → z ≡ power p c (2 ^ (s - 1)) → z ≢ p - 1 → Nonresidue p r → ⊥
+residue {r = r} {c} h ec ez ne n =
+    elim (euler h.prime h.odd r n.positive n.inside) [ inl y ↦ n.rootless y.0 | inr m ↦ ne (ez ∙ euler_power h r c ec ∙ m.1) ]

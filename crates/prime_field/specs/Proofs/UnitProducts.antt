@@ -7,8 +7,9 @@ use Rattle.std.proofs.Math.Nat as N
 use Rattle.std.proofs.Math.Nat.{mod-lt, zero-mod, mul-mod_left, add-mul-mod_self_left, mod-eq-sub-mod}
 use native.Mathlib.Omega.{arith}
 use Rattle.std.proofs.lemmas.Bool.{cases_lt}
+use Rattle.std.proofs.lemmas.Nat.{mul-mod_first, mul-mod_second}
 use Rattle.prime_field.specs.Primes.{Prime}
-use Rattle.prime_field.specs.Proofs.Congruences.{mod_eq, mul_congr, add_congr, mod_mul_left, mod_mul_right}
+use Rattle.prime_field.specs.Proofs.Congruences.{mod_eq, mul_congr, add_congr}
 use Rattle.prime_field.specs.Proofs.Euclid.{inverse, euclid}
 use Rattle.prime_field.specs.Proofs.DistinctLists.{Member, Distinct, product, remove, length_remove, product_remove, from_remove, to_remove, distinct_remove, removed, up_to, length_up_to, to_up_to, from_up_to, distinct_up_to}
 use Rattle.prime_field.specs.Proofs.Pairing.{Paired, PairProduct, pair_product, partner_unique}
@@ -32,7 +33,7 @@ solve {p} P a x pa la px lx = go (inverse P x px lx)
       where
         is : (x * ((i * a) % p)) % p ≡ a
         is =
-            mod_mul_right x (i * a) p ∙ mod_eq p (sym (N.mul_assoc x i a)) ∙ sym (mod_mul_left (x * i) a p)
+            mul-mod_second x (i * a) p ∙ mod_eq p (sym (N.mul_assoc x i a)) ∙ sym (mul-mod_first (x * i) a p)
             ∙ ap (λ (v : ℕ). (v * a) % p) e ∙ mod_eq p (N.one-mul a) ∙ mod-eq_of_lt la
 
         nz : (i * a) % p ≢ 0
@@ -219,12 +220,12 @@ module _ {p : ℕ} (P : Prime p) (odd : p % 2 ≡ 1) (s : ℕ) (ps : 0 < s) (ls 
           first = mod_eq p units_product ∙ mul_congr p (s * t) (s * t) (product others) w refl e
 
           second : (a ^ suc h) % p ≡ (s * s * w) % p
-          second = mod_eq p (N.pow-succ' a h ∙ ap (λ (v : ℕ). v * w) a_is) ∙ mod_mul_left (s * s) w p
+          second = mod_eq p (N.pow-succ' a h ∙ ap (λ (v : ℕ). v * w) a_is) ∙ mul-mod_first (s * s) w p
 
           sum : (product (units p) + a ^ suc h) % p ≡ 0
           sum =
               add_congr p (product (units p)) (s * t * w) (a ^ suc h) (s * s * w) first second
-              ∙ mod_eq p (sym (N.add-mul (s * t) (s * s) w)) ∙ sym (mod_mul_left (s * t + s * s) w p)
+              ∙ mod_eq p (sym (N.add-mul (s * t) (s * s) w)) ∙ sym (mul-mod_first (s * t + s * s) w p)
               ∙ ap (λ (v : ℕ). (v * w) % p) (negative_product p s t st) ∙ mod_eq p (N.zero-mul w) ∙ zero-mod p
 
 -- a has the root s: the product is - a ^ ((p - 1) / 2)

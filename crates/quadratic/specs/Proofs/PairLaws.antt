@@ -6,10 +6,10 @@ use Rattle.algebra.specs.Operations.{Ops, In, minus}
 use Rattle.algebra.specs.Laws.{Arithmetic, Laws, SquareLaw, SignLaw}
 use Rattle.algebra.specs.Roots.{Square}
 use Rattle.algebra.proofs.Elements.{Element, by_ring, by_ring_from, times, is_element, reads}
-use Rattle.algebra.proofs.Products.{equal_or_not}
+use Rattle.algebra.proofs.Products.{equal_or_not, neg_zero}
 use Rattle.algebra.proofs.Solved.{pairs_associate}
 use Rattle.quadratic.specs.Pairs.{Nonsquare, norm, pairs, HalfSum}
-use Rattle.quadratic.specs.Proofs.Squares.{half, half_sum_in, half_sums, half_sum, neg_zero, neg_nonzero, neg_square, double_inv_in, beta_inv_in, beta_inv, norm_in, norm_zero_high, norm_zero_low, low_squares, half_sum_squares, low_half, high_half}
+use Rattle.quadratic.specs.Proofs.Squares.{half, half_sum_in, half_sums, half_sum, neg_nonzero, neg_square, double_inv_in, beta_inv_in, beta_inv, norm_in, norm_zero_high, norm_zero_low, low_squares, half_sum_squares, low_half, high_half}
 
 pub pair-≡ : {E : Type 0} {a b c d : E} → a ≡ c → b ≡ d → ◌≡◌ {A = E × E} (a, b) (c, d)
 pair-≡ {E} p q = ap₂ (λ (x : E) (y : E). (x, y)) p q

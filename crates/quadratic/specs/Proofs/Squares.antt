@@ -1,9 +1,9 @@
 -- What a field gives where β is no square: doubles, norms, and which elements are squares.
-use Rattle.std.specs.Prelude.{◌≡◌, ℕ, zero, suc, ◌⊎◌, [], ◌∷◌, ◌≢◌, refl}
-use Rattle.std.proofs.Common.{sym, ◌∙◌, ap, ap₂, subst, inl, inr, arith}
+use Rattle.std.specs.Prelude.{◌≡◌, ◌⊎◌, [], ◌∷◌, ◌≢◌, refl}
+use Rattle.std.proofs.Common.{sym, ◌∙◌, ap, ap₂, subst, inl, inr}
 use Rattle.algebra.specs.Operations.{Ops, In, minus}
 use Rattle.algebra.specs.Laws.{Arithmetic, Laws}
-use Rattle.algebra.specs.Roots.{Square, RootOf}
+use Rattle.algebra.specs.Roots.{Square}
 use Rattle.algebra.proofs.Elements.{by_ring, by_ring_from, times, is_element, reads}
 use Rattle.algebra.proofs.Products.{equal_or_not, other_zero}
 use Rattle.quadratic.specs.Pairs.{Nonsquare, norm, HalfSum}
@@ -28,9 +28,6 @@ module _ {E : Type 0} {o : Ops E} (l : Arithmetic o) where
 
   pub zero_square : Square o 𝟘
   zero_square = (𝟘, l.zero_in, by_ring l [] (search reads depth 40) refl)
-
-  pub neg_zero : neg 𝟘 ≡ 𝟘
-  neg_zero = by_ring l [] (search reads depth 40) refl
 
   pub neg_nonzero : (a : E) → In o a → (a ≢ 𝟘) → neg a ≢ 𝟘
   neg_nonzero a ha n e =
@@ -70,23 +67,6 @@ module _ {E : Type 0} {o : Ops E} (l : Arithmetic o) where
         twice : (s : E) → In o s → s · half o ⊹ s · half o ≡ s
         twice s hs =
             by_ring_from l ((s, hs) ∷ (half o, half_in) ∷ []) (times l s two_halves (search reads depth 40) (search reads depth 40) ∷ []) (search reads depth 40) refl
-
--- a square has a root of sign 0
-pub root_of_square : {E : Type 0} {o : Ops E} → Laws o → (a : E) → Square o a → (x : E) × RootOf o a x
-root_of_square {E} {o} laws a (x, hx, e) = go (equal_or_not l x o.zero hx l.zero_in)
-  where
-    l : Arithmetic o
-    l = laws.arithmetic
-
-    by_sign : (s : ℕ) → o.sign x ≡ s → (x ≢ o.zero) → (y : E) × RootOf o a y
-    by_sign zero k n = (x, record { inside = hx; squares = e; even = k })
-    by_sign (suc m) k n =
-        let one_sign = laws.signs.of_negative x hx n in
-        (o.neg x, record { inside = l.neg_in x hx; squares = neg_square l x hx ∙ e; even = omega arith })
-
-    go : (x ≡ o.zero) ⊎ (x ≢ o.zero) → (y : E) × RootOf o a y
-    go (inl z) = (x, record { inside = hx; squares = e; even = ap o.sign z ∙ laws.signs.of_zero })
-    go (inr n) = by_sign (o.sign x) refl n
 
 module _ {E : Type 0} {o : Ops E} (laws : Laws o) (β : E) (up : Nonsquare o β) where
   open o use {zero as 𝟘, one as 𝟙, add as ◌⊹◌, mul as ◌·◌, neg, inv}
