@@ -14,14 +14,14 @@ use Rattle.unit.specs.Orders.{Stands, Advances, Refused, Transition, wrong_state
 use Rattle.unit.specs.States.{Fits}
 use Rattle.unit.specs.declared.faults.UnitFault.{UnitFault}
 use Rattle.unit.specs.declared.faults.UnitFault.TheVariants as fault
-use Rattle.unit.specs.declared.progress.Progress.{Progress}
+use Rattle.unit.specs.declared.reports.Report.{Report}
 use Rattle.unit.specs.declared.states.Kind.{Kind}
 use Rattle.unit.specs.declared.states.Kind.TheVariants.{Open, Block, Engage, Release}
 use Rattle.unit.specs.declared.states.State.{State}
 use Rattle.unit.specs.declared.states.State.TheVariants.{Parked, Loading, Ready, Steering}
 
 -- progress is equal where its state and its numbers are: the facts beside them have one proof each
-pub progress_equal : (p q : Progress) → p.state ≡ q.state → p.named ≡ q.named → p.taken ≡ q.taken → p.changed ≡ q.changed → p ≡ q
+pub progress_equal : (p q : Report) → p.state ≡ q.state → p.named ≡ q.named → p.taken ≡ q.taken → p.changed ≡ q.changed → p ≡ q
 progress_equal p q s a b c i = record {
   state = s i;
   named = a i;
@@ -34,19 +34,19 @@ progress_equal p q s a b c i = record {
   full = is_prop→PathP (λ j. s j ≡ Ready → b j ≡ a j) (λ j. hlevel props) p.full q.full i;
 }
 
-pub stands_once : (p q : Progress) (s : State) (m t c : ℕ) → Stands p s m t c → Stands q s m t c → p ≡ q
+pub stands_once : (p q : Report) (s : State) (m t c : ℕ) → Stands p s m t c → Stands q s m t c → p ≡ q
 stands_once p q s m t c h k =
     progress_equal p q (h.state_is ∙ sym k.state_is) (h.named_is ∙ sym k.named_is) (h.taken_is ∙ sym k.taken_is) (h.changed_is ∙ sym k.changed_is)
 
-advances_once : (p q q' : Progress) (c : ℕ) → p.state ≡ Loading → Advances p q c → Advances p q' c → q ≡ q'
+advances_once : (p q q' : Report) (c : ℕ) → p.state ≡ Loading → Advances p q c → Advances p q' c → q ≡ q'
 advances_once p q q' c loading h k =
     progress_equal q q'
     (⊎_elim (λ (l : p.taken + 1 < p.named). h.more l ∙ sym (k.more l)) (λ (g : p.named ≤ p.taken + 1). let e : p.taken + 1 ≡ p.named = omega (arith, p.room loading) in h.last e ∙ sym (k.last e)) (cases_lt (p.taken + 1) p.named))
     (h.named_is ∙ sym k.named_is) (h.taken_is ∙ sym k.taken_is) (h.changed_is ∙ sym k.changed_is)
 
-module _ {E : Type 0} (o : Ops E) (α : E) (n : ℕ) (p : Progress) (m : ℕ) (b : List E) where
+module _ {E : Type 0} (o : Ops E) (α : E) (n : ℕ) (p : Report) (m : ℕ) (b : List E) where
   -- what an order of a kind that fits the state leaves
-  abbrev Fitting : Kind → Progress → List E → Result ℕ UnitFault → Type 0
+  abbrev Fitting : Kind → Report → List E → Result ℕ UnitFault → Type 0
   Fitting Open q left r =
       ((1 ≤ m → m ≤ 4096 → ⊥) × Refused p q (event Open m b left r) (fault.BlockCount m))
       ⊎ ((1 ≤ m) × (m ≤ 4096) × (r ≡ Ok 0) × Stands q Loading m 0 0 × (left ≡ b))
@@ -56,10 +56,10 @@ module _ {E : Type 0} (o : Ops E) (α : E) (n : ℕ) (p : Progress) (m : ℕ) (b
   Fitting Engage q left r = (r ≡ Ok 0) × Stands q Steering p.named p.taken p.changed × (left ≡ b)
   Fitting Release q left r = (r ≡ Ok 0) × Stands q Parked p.named p.taken p.changed × (left ≡ b)
 
-  abbrev Outcome : Kind → Progress → List E → Result ℕ UnitFault → Type 0
+  abbrev Outcome : Kind → Report → List E → Result ℕ UnitFault → Type 0
   Outcome k q left r = ((Fits k p.state → ⊥) × Refused p q (event k m b left r) (fault.WrongState p.state)) ⊎ (Fits k p.state × Fitting k q left r)
 
-  outcome : (k : Kind) (q : Progress) (left : List E) (r : Result ℕ UnitFault) → Transition o α n p q (event k m b left r) → Outcome k q left r
+  outcome : (k : Kind) (q : Report) (left : List E) (r : Result ℕ UnitFault) → Transition o α n p q (event k m b left r) → Outcome k q left r
   outcome k q left r (wrong_state f x) = inl (f, x)
   outcome k q left r (block_count is f range x) =
       subst (λ v. Outcome v q left r) (sym is) (inr (f, inl (range, record { answer_is = x.answer_is; progress_is = x.progress_is; block_is = x.block_is })))
@@ -72,14 +72,14 @@ module _ {E : Type 0} (o : Ops E) (α : E) (n : ℕ) (p : Progress) (m : ℕ) (b
   outcome k q left r (granted is s a x l) = subst (λ v. Outcome v q left r) (sym is) (inr (s, (a, x, l)))
   outcome k q left r (released is s a x l) = subst (λ v. Outcome v q left r) (sym is) (inr (s, (a, x, l)))
 
-  abbrev Same : Progress → Progress → List E → List E → Result ℕ UnitFault → Result ℕ UnitFault → Type 0
+  abbrev Same : Report → Report → List E → List E → Result ℕ UnitFault → Result ℕ UnitFault → Type 0
   Same q q' left left' r r' = (q ≡ q') × (left ≡ left') × (r ≡ r')
 
-  refused_once : {k : Kind} {q q' : Progress} {left left' : List E} {r r' : Result ℕ UnitFault} (f g : UnitFault) → f ≡ g
+  refused_once : {k : Kind} {q q' : Report} {left left' : List E} {r r' : Result ℕ UnitFault} (f g : UnitFault) → f ≡ g
       → Refused p q (event k m b left r) f → Refused p q' (event k m b left' r') g → Same q q' left left' r r'
   refused_once f g e h k = (h.progress_is ∙ sym k.progress_is, h.block_is ∙ sym k.block_is, h.answer_is ∙ ap Err e ∙ sym k.answer_is)
 
-  module _ (l : Arithmetic o) (generates : Generates o α n) {q q' : Progress} {left left' : List E} {r r' : Result ℕ UnitFault} where
+  module _ (l : Arithmetic o) (generates : Generates o α n) {q q' : Report} {left left' : List E} {r r' : Result ℕ UnitFault} where
     fitting_once : (k : Kind) → Fits k p.state → Fitting k q left r → Fitting k q' left' r' → Same q q' left left' r r'
     fitting_once Open fits (inl (_, x)) (inl (_, y)) = refused_once _ _ refl x y
     fitting_once Open fits (inl (out, x)) (inr (low, high, _, _, _)) = absurd (out low high)

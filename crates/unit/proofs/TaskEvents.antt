@@ -52,7 +52,7 @@ module _ {F E : Type 0} {m : Ghosts F E} {f : F} {α : E} {n : ℕ} {before afte
   pub worked_blocks : (h : List (Event E)) → Day before after h → Throughout (BlockLaw (m.ops f) α n) h
   worked_blocks h d =
       subst (Throughout (BlockLaw (m.ops f) α n)) (day_once w.day h w.came d)
-      (along (sym w.field_is) (sym w.alpha_is) (sym w.length_is) (λ f a k. Throughout (BlockLaw (m.ops f) a k) w.day) (blocks_throughout w.lived))
+      (along (sym w.sealed.1) (sym w.sealed.2) (sym w.sealed.3) (λ f a k. Throughout (BlockLaw (m.ops f) a k) w.day) (blocks_throughout w.lived))
 
   pub worked_orders : (h : List (Event E)) → Day before after h → Throughout OrderLaw h
   worked_orders h d = subst (Throughout OrderLaw) (day_once w.day h w.came d) (orders_throughout w.lived)

@@ -1,12 +1,12 @@
 // The orders that a sealed unit is given.
-ghost use Rattle.corrector.specs.Correction.{Corrected, Uncorrected};
-ghost use Rattle.std.specs.Result.{MatchResult};
+ghost use Rattle.std.specs.Prelude.{MatchResult};
+ghost use Rattle.unit.specs.Blocks.{CorrectedBy, UncorrectedBy};
 ghost use Rattle.unit.specs.Days.{event};
 ghost use Rattle.unit.specs.Law.{Ordered};
 ghost use Rattle.unit.specs.Orders.{UncorrectedAt, OrderedOnce};
 
 use crate::faults::UnitFault;
-use crate::progress::Progress;
+use crate::reports::Report;
 use crate::states::{Kind, State};
 use crate::units::Sealed;
 use algebra::{Field, RootedField};
@@ -30,7 +30,7 @@ impl<F: RootedField> Sealed<F> {
             (State::Steering, Kind::Open) => Err(UnitFault::WrongState(State::Steering)),
             (_, Kind::Open) => match number {
                 1..=MOST_BLOCKS => {
-                    self.progress = Progress::opened(number);
+                    self.progress = Report::opened(number);
                     Ok(0)
                 }
                 _ => Err(UnitFault::BlockCount(number)),
@@ -57,12 +57,11 @@ impl<F: RootedField> Sealed<F> {
 
     // Corrects the block of a number, and adds the number to a refusal.
     fn correct_numbered(&self, number: u32, block: &mut [F::Elem]) -> Result<u32, UnitFault>
-        ensures { MatchResult result (Corrected (F.Field.ops self.now.field) self.now.alpha self.now.length block.old block.new) (UncorrectedAt number (Uncorrected (F.Field.ops self.now.field) self.now.alpha self.now.length block.old block.new)) }
+        ensures { MatchResult result (CorrectedBy self.now block.old block.new) (UncorrectedAt number (UncorrectedBy self.now block.old block.new)) }
     {
-        match correct(&self.code(), block) {
-            Ok(changed) => Ok(changed as u32),
-            Err(fault) => Err(UnitFault::Block { number, fault }),
-        }
+        let corrected = correct(&self.code(), block);
+        let changed = corrected.map_err(|fault| UnitFault::Block { number, fault })?;
+        Ok(changed as u32)
     }
 }
 
