@@ -26,16 +26,16 @@ impl<F: RootedField> Sealed<F> {
     ) -> Result<u32, UnitFault>
         ensures { Ordered self.old self.new (event kind number block.old block.new result) }
     {
-        match (self.progress.state, kind) {
-            (State::Steering, Kind::Open) => Err(UnitFault::WrongState(State::Steering)),
-            (_, Kind::Open) => match number {
+        match (kind, self.progress.state) {
+            (Kind::Open, State::Steering) => Err(UnitFault::WrongState(State::Steering)),
+            (Kind::Open, _) => match number {
                 1..=MOST_BLOCKS => {
                     self.progress = Report::opened(number);
                     Ok(0)
                 }
                 _ => Err(UnitFault::BlockCount(number)),
             },
-            (State::Loading, Kind::Block) => {
+            (Kind::Block, State::Loading) => {
                 if number != self.progress.taken {
                     return Err(UnitFault::OutOfTurn(number));
                 }
@@ -43,15 +43,15 @@ impl<F: RootedField> Sealed<F> {
                 self.progress.advance(changed);
                 Ok(changed)
             }
-            (State::Ready, Kind::Engage) => {
+            (Kind::Engage, State::Ready) => {
                 self.progress.state = State::Steering;
                 Ok(0)
             }
-            (State::Steering, Kind::Release) => {
+            (Kind::Release, State::Steering) => {
                 self.progress.state = State::Parked;
                 Ok(0)
             }
-            (state, _) => Err(UnitFault::WrongState(state)),
+            (_, state) => Err(UnitFault::WrongState(state)),
         }
     }
 
