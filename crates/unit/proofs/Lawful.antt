@@ -1,5 +1,5 @@
 -- The law at each order of a day.
-use Rattle.std.proofs.Common.{◌≡◌, ℕ, ◌≤◌, true, List, ◌∷◌, length, is_ok, Ok, ◌↔◌, refl, ap, sym, subst, arith}
+use Rattle.std.proofs.Common.{◌≡◌, ℕ, true, List, ◌∷◌, length, is_ok, Ok, ◌↔◌, ap, sym, subst}
 use Rattle.algebra.specs.Laws.{Laws}
 use Rattle.algebra.specs.Operations.{Ops}
 use Rattle.algebra.specs.Roots.{Rooted}

@@ -4,4 +4,3 @@ pub mod Lawful
 pub mod TaskEvents
 pub mod Tallies
 pub mod Once
-pub mod Scratch
