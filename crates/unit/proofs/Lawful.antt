@@ -36,10 +36,10 @@ module _ {E : Type 0} (o : Ops E) (α : E) (n : ℕ) (h : List (Event E)) (e : E
   of_kind q r = (λ a. r.0 a.1, λ x. (q, r.1 x))
 
   module _ {p q : Report} (v : Summary h p) where
-    -- nothing that an accepted order needs holds where the order is refused
     not_ok : {f : UnitFault} → Refused p q e f → ¬ OkAnswer
     not_ok r a = cc r.answer_is
 
+    -- the law of each kind, where the order does not fit the state
     unfit : {f : UnitFault} → Refused p q e f → (k : Kind) → ¬ Fits k p.state → Rule k
     unfit r Open f = (λ s. absurd (not_ok r s), λ x. absurd (f (λ s. x.0 (v.steering.1 s))))
     unfit r Block f = ((λ s. absurd (not_ok r s), λ x. absurd (f (turn_to v _ x.0).0)), λ c w. cc r.answer_is)
@@ -73,14 +73,14 @@ module _ {E : Type 0} (o : Ops E) (α : E) (n : ℕ) (h : List (Event E)) (e : E
     left_kept (released _ _ _ _ b) _ = b
     left_kept (taken k _ _ _ a _) not_taken = absurd (not_taken (k, ap is_ok a))
 
-    pub block_law : Transition o α n p q e → BlockLaw o α n h e
+    block_law : Transition o α n p q e → BlockLaw o α n h e
     block_law t = record {
       taken = λ k. of_kind k (subst Rule k (rule t)).0;
       corrected = λ c k a. (subst Rule k (rule t)).1 c a;
       kept = left_kept t;
     }
 
-    pub order_law : Transition o α n p q e → OrderLaw h e
+    order_law : Transition o α n p q e → OrderLaw h e
     order_law t = record {
       opening = λ k. of_kind k (subst Rule k (rule t));
       engage = λ k. of_kind k (subst Rule k (rule t));

@@ -16,13 +16,13 @@ use Rattle.unit.proofs.NextEvent.{loaded_same, loaded_open, loaded_block, loaded
 abbrev pub Loads : State → Type 0
 Loads s = (s ≡ Loading) ⊎ (s ≡ Ready)
 
-pub parked-loads : {s : State} → s ≡ Parked → ¬ Loads s
-parked-loads p (inl q) = cc
-parked-loads p (inr q) = cc
+pub parked_not_loads : {s : State} → s ≡ Parked → ¬ Loads s
+parked_not_loads p (inl q) = cc
+parked_not_loads p (inr q) = cc
 
-pub steering-loads : {s : State} → s ≡ Steering → ¬ Loads s
-steering-loads p (inl q) = cc
-steering-loads p (inr q) = cc
+steering_not_loads : {s : State} → s ≡ Steering → ¬ Loads s
+steering_not_loads p (inl q) = cc
+steering_not_loads p (inr q) = cc
 
 -- the progress p sums up the day h
 pub record Summary {E : Type 0} (h : List (Event E)) (p : Report) : Type 0 where
@@ -46,19 +46,19 @@ module _ {E : Type 0} {h : List (Event E)} {p : Report} (v : Summary h p) where
   pub grant_from : p.state ≡ Ready → Grantable h
   grant_from s = (p.named, (v.loaded p.named p.named).1 (inr s, refl, p.full s))
 
-advances-loads : (p q : Report) (c : ℕ) → Advances p q c → p.taken < p.named → Loads q.state
-advances-loads p q c a r =
+advances_to_loads : (p q : Report) (c : ℕ) → Advances p q c → p.taken < p.named → Loads q.state
+advances_to_loads p q c a r =
     ⊎_elim (λ (l : p.taken + 1 < p.named). inl (a.more l)) (λ (l : p.named ≤ p.taken + 1). inr (a.last (omega arith))) (cases_lt (p.taken + 1) p.named)
 
 -- an order that was refused is none that was accepted
-pub refused-accepted : {E : Type 0} {p q : Report} {e : Event E} {f : UnitFault} → Refused p q e f → (k : Kind) → ¬ Accepted k e
-refused-accepted r k a = cc r.answer_is
+pub refused_not_accepted : {E : Type 0} {p q : Report} {e : Event E} {f : UnitFault} → Refused p q e f → (k : Kind) → ¬ Accepted k e
+refused_not_accepted r k a = cc r.answer_is
 
 module _ {E : Type 0} {h : List (Event E)} {p q : Report} {e : Event E} where
   -- neither state nor counts change, and no order but a block was accepted
   unchanged : {f : UnitFault} → Refused p q e f → Summary h p → Summary (e ∷ h) q
   unchanged r v =
-      let not = refused-accepted r in
+      let not = refused_not_accepted r in
       subst (Summary (e ∷ h)) (sym r.progress_is) (record {
         steering =
             let s = steering_same {h = h} {e = e} (not Engage) (not Release) in
@@ -86,11 +86,11 @@ module _ {E : Type 0} {h : List (Event E)} {p q : Report} {e : Event E} where
         );
   }
   next_summary (taken {c} k s _ _ a w) v =
-      let loads = advances-loads p q c w (p.room s) in
+      let loads = advances_to_loads p q c w (p.room s) in
       record {
         steering = (
           λ x. absurd (let is = v.steering.0 ((steering_same {h = h} {e = e} (λ x. cc) (λ x. cc)).0 x) in cc),
-          λ x. absurd (steering-loads x loads),
+          λ x. absurd (steering_not_loads x loads),
         );
         loaded = λ m d.
             let t = loaded_block {h = h} {e = e} (k, ap is_ok a) (λ x. cc) (λ x. cc) m d in (
@@ -102,7 +102,7 @@ module _ {E : Type 0} {h : List (Event E)} {p q : Report} {e : Event E} where
     steering = (λ x. w.state_is, λ x. steering_engage (k, ap is_ok a));
     loaded = λ m c. (
       λ x. absurd (loaded_engage {h = h} {e = e} (k, ap is_ok a) (λ y. cc) m c x),
-      λ x. absurd (steering-loads w.state_is x.0),
+      λ x. absurd (steering_not_loads w.state_is x.0),
     );
   }
   next_summary (released k s a w _) v = record {
@@ -112,8 +112,8 @@ module _ {E : Type 0} {h : List (Event E)} {p q : Report} {e : Event E} where
     );
     loaded = λ m c.
         let t = loaded_same {h = h} {e = e} (λ y. cc) (λ y. cc) (λ y. cc) m c in (
-          λ x. absurd (steering-loads s ((v.loaded m c).0 (t.0 x)).0),
-          λ x. absurd (parked-loads w.state_is x.0),
+          λ x. absurd (steering_not_loads s ((v.loaded m c).0 (t.0 x)).0),
+          λ x. absurd (parked_not_loads w.state_is x.0),
         );
   }
 
@@ -124,6 +124,6 @@ none_yet i = elim i [ ]
 pub summary : {E : Type 0} {o : Ops E} {α : E} {n : ℕ} {h : List (Event E)} {p : Report} → Lived o α n h p → Summary h p
 summary (sealed s) = record {
   steering = (λ x. absurd (none_yet x.2), λ x. cc s.state_is);
-  loaded = λ m c. (λ x. absurd (none_yet x.1), λ x. absurd (parked-loads s.state_is x.0));
+  loaded = λ m c. (λ x. absurd (none_yet x.1), λ x. absurd (parked_not_loads s.state_is x.0));
 }
 summary (ordered l t) = next_summary t (summary l)

@@ -10,7 +10,7 @@ use Rattle.unit.specs.declared.reports.Report.{Report}
 use Rattle.unit.specs.declared.states.Kind.TheVariants.{Open, Block}
 use Rattle.unit.specs.declared.states.State.{State}
 use Rattle.unit.specs.declared.states.State.TheVariants.{Parked, Loading, Ready, Steering}
-use Rattle.unit.proofs.Summary.{parked-loads, refused-accepted, Summary, turn_from, grant_from, summary}
+use Rattle.unit.proofs.Summary.{parked_not_loads, refused_not_accepted, Summary, turn_from, grant_from, summary}
 
 -- the counts of the report are those of the day
 abbrev Tallied : {E : Type 0} → List (Event E) → Report → Type 0
@@ -31,7 +31,7 @@ module _ {E : Type 0} {h : List (Event E)} {e : Event E} where
   tally_block p k a l (reports.opened i c d) = reports.opened (later p i) (one (k, ap is_ok a) c) (adds k a d)
 
   still : {p q : Report} {f : UnitFault} → Refused p q e f → Tallied h p → Tallied (e ∷ h) q
-  still r t = subst (Tallied (e ∷ h)) (sym r.progress_is) (tally_same (refused-accepted r Open) (refused-accepted r Block) t)
+  still r t = subst (Tallied (e ∷ h)) (sym r.progress_is) (tally_same (refused_not_accepted r Open) (refused_not_accepted r Block) t)
 
   next_tally : {o : Ops E} {α : E} {n : ℕ} {p q : Report} → Transition o α n p q e → Tallied h p → Tallied (e ∷ h) q
   next_tally (wrong_state _ r) t = still r t
@@ -50,7 +50,7 @@ tally (ordered l t) = next_tally t (tally l)
 
 -- the state of a unit is that of the day
 in_state : {E : Type 0} {h : List (Event E)} {p : Report} → Summary h p → (s : State) → p.state ≡ s → InState h s
-in_state v Parked q = (λ x. let is = v.steering.0 x in cc, λ m c x. parked-loads q ((v.loaded m c).0 x).0)
+in_state v Parked q = (λ x. let is = v.steering.0 x in cc, λ m c x. parked_not_loads q ((v.loaded m c).0 x).0)
 in_state {p = p} v Loading q = (p.taken, turn_from v q)
 in_state v Ready q = grant_from v q
 in_state v Steering q = v.steering.1 q

@@ -1,4 +1,4 @@
--- What each order does to a unit, exactly: the answer, the block and the progress afterwards.
+-- What each order does to a unit, exactly: the answer, the block and the progress afterwards, which is the report as it stands.
 use Rattle.std.specs.Prelude.{◌≡◌, ℕ, ◌+◌, ◌<◌, ◌≤◌, List, [], ◌∷◌, Ok, Err, Result, ◌≢◌}
 use Rattle.algebra.specs.Operations.{Ops}
 use Rattle.algebra.specs.declared.Field.{Ghosts}
