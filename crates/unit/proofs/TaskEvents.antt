@@ -3,8 +3,8 @@ use Rattle.std.proofs.Common.{◌≡◌, ℕ, ◌+◌, ◌<◌, List, [], ◌∷
 use mathlib.Core.List.{reverse-cons}
 use Rattle.std.proofs.lemmas.List.{reverse-reverse, take_more, take_more_set, drop_more, drop-set-lt}
 use Rattle.algebra.specs.declared.Field.{Ghosts}
-use Rattle.unit.specs.Days.{Event, event, Throughout}
 use Rattle.unit.specs.Commissioning.{SealedWith}
+use Rattle.unit.specs.Days.{Event, event, Throughout}
 use Rattle.unit.specs.Law.{HasLived, BlockLaw, OrderLaw, Ordered}
 use Rattle.unit.specs.Orders.{IsNew, sealed}
 use Rattle.unit.specs.Tasks.{Came, Events, none, next, Day, ThroughoutDay, Carried, Worked}
@@ -44,11 +44,6 @@ carried_next {u = u} {w = w} {x = x} ts us i d in_ts in_us same c o came =
 
 came_once : {E : Type 0} {t u : Task E} {d e : Event E} → Came t u d → Came t u e → d ≡ e
 came_once {d = d} {e = e} x y =
-    let kind : d.kind ≡ e.kind = cc in
-    let number : d.number ≡ e.number = cc in
-    let offered : d.offered ≡ e.offered = cc in
-    let left : d.left ≡ e.left = cc in
-    let answer : d.answer ≡ e.answer = cc in
     let z : event d.kind d.number d.offered d.left d.answer ≡ event e.kind e.number e.offered e.left e.answer = cc in z
 
 events_once : {E : Type 0} {ts us : List (Task E)} {ds es : List (Event E)} → Events ts us ds → Events ts us es → ds ≡ es

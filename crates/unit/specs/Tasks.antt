@@ -1,10 +1,10 @@
 -- Tasks, and the day that they make.
 use Rattle.std.specs.Prelude.{◌≡◌, ℕ, List, [], ◌∷◌, ◌++◌, reverse, Some, vec_items}
 use Rattle.algebra.specs.declared.Field.{Ghosts}
+use Rattle.unit.specs.Commissioning.{SealedWith}
 use Rattle.unit.specs.Days.{Event, Throughout}
 use Rattle.unit.specs.Law.{HasLived}
 use Rattle.unit.specs.Orders.{Same}
-use Rattle.unit.specs.Commissioning.{SealedWith}
 use Rattle.unit.specs.declared.tasks.Task.{Task}
 use Rattle.unit.specs.declared.units.Sealed.{Sealed}
 
