@@ -1,5 +1,5 @@
 -- Working days: the orders that a sealed unit was given, newest first, with what came of each.
-use Rattle.std.specs.Prelude.{◌≡◌, ℕ, suc, ◌<◌, true, List, [], ◌∷◌, is_ok, Result}
+use Rattle.std.specs.Prelude.{◌≡◌, ℕ, suc, ◌<◌, true, List, [], ◌∷◌, is_ok, Result, ⊤}
 use Rattle.unit.specs.declared.faults.UnitFault.{UnitFault}
 use Rattle.unit.specs.declared.states.Kind.{Kind}
 use Rattle.unit.specs.declared.states.Kind.TheVariants.{Open, Block, Engage, Release}
@@ -22,18 +22,18 @@ Accepted k e = (e.kind ≡ k) × (is_ok e.answer ≡ true)
 -- an order of the kind k was accepted on the day; the last such bore the number m, and s are the events since
 pub data Since {E : Type 0} (k : Kind) : List (Event E) → ℕ → List (Event E) → Type 0 where
   here : {e : Event E} {h : List (Event E)} → Accepted k e → Since k (e ∷ h) e.number []
-  later : {e : Event E} {h s : List (Event E)} {m : ℕ} → (Accepted k e → ⊥) → Since k h m s → Since k (e ∷ h) m (e ∷ s)
+  later : {e : Event E} {h s : List (Event E)} {m : ℕ} → ¬ Accepted k e → Since k h m s → Since k (e ∷ h) m (e ∷ s)
 
 -- among the events s no order of the kind k was accepted
 abbrev pub NoneOf : {E : Type 0} → Kind → List (Event E) → Type 0
-NoneOf k [] = Unit {0}
-NoneOf k (e ∷ s) = (Accepted k e → ⊥) × NoneOf k s
+NoneOf k [] = ⊤
+NoneOf k (e ∷ s) = ¬ Accepted k e × NoneOf k s
 
 -- among the events s, c orders of the kind k were accepted
 pub data Count {E : Type 0} (k : Kind) : List (Event E) → ℕ → Type 0 where
   none : Count k [] 0
   one : {e : Event E} {s : List (Event E)} {c : ℕ} → Accepted k e → Count k s c → Count k (e ∷ s) (suc c)
-  skip : {e : Event E} {s : List (Event E)} {c : ℕ} → (Accepted k e → ⊥) → Count k s c → Count k (e ∷ s) c
+  skip : {e : Event E} {s : List (Event E)} {c : ℕ} → ¬ Accepted k e → Count k s c → Count k (e ∷ s) c
 
 -- an engage order was granted and, since the last such, no release was accepted
 abbrev pub IsSteering : {E : Type 0} → List (Event E) → Type 0
@@ -53,5 +53,5 @@ Grantable h = (m : ℕ) × Loaded h m m
 
 -- P holds at every order of the day, given the events before it
 abbrev pub Throughout : {E : Type 0} → (List (Event E) → Event E → Type 0) → List (Event E) → Type 0
-Throughout P [] = Unit {0}
+Throughout P [] = ⊤
 Throughout P (e ∷ h) = P h e × Throughout P h

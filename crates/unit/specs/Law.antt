@@ -1,5 +1,5 @@
 -- The law over working days: what holds at every order e, refused or not, after the events h.
-use Rattle.std.specs.Prelude.{◌≡◌, ℕ, ◌≤◌, List, ◌∷◌, length, Ok}
+use Rattle.std.specs.Prelude.{◌≡◌, ℕ, ◌≤◌, List, ◌∷◌, length, Ok, ◌↔◌}
 use Rattle.algebra.specs.Laws.{Laws}
 use Rattle.algebra.specs.Operations.{Ops}
 use Rattle.algebra.specs.Roots.{Rooted}
@@ -8,13 +8,9 @@ use Rattle.quadratic.specs.Towers.{TowersKeepLaws}
 use Rattle.code.specs.Blocks.{Elements, CodeWord₁, differ}
 use Rattle.corrector.specs.Correction.{Corrected}
 use Rattle.unit.specs.Days.{Event, Accepted, IsSteering, InTurn, Grantable}
-use Rattle.unit.specs.Orders.{Transition, Lived, Same}
+use Rattle.unit.specs.Orders.{AllowedCount, Transition, Lived, Same}
 use Rattle.unit.specs.declared.states.Kind.TheVariants.{Open, Block, Engage, Release}
 use Rattle.unit.specs.declared.units.Sealed.{Sealed}
-
-infixl 20 ◌iff◌
-abbrev pub ◌iff◌ : Type 0 → Type 0 → Type 0
-◌iff◌ A B = (A → B) × (B → A)
 
 -- The unit's field, and every tower of quadratic steps above it, keeps the laws and decides which elements have a root.
 pub record FieldLaw {E : Type 0} (o : Ops E) : Type 0 where
@@ -32,9 +28,9 @@ Near {E} o α n block = (word : List E) × CodeWord₁ o α n word × (differ o 
 -- and the number returned is that of the symbols changed.
 -- `kept`: whatever else is ordered, or refused, leaves the block lent as it came.
 pub record BlockLaw {E : Type 0} (o : Ops E) (α : E) (n : ℕ) (h : List (Event E)) (e : Event E) : Type 0 where
-  pub taken : e.kind ≡ Block → Accepted Block e iff (InTurn h e.number × (length e.offered ≡ n) × Elements o e.offered × Near o α n e.offered)
+  pub taken : e.kind ≡ Block → (Accepted Block e ↔ (InTurn h e.number × (length e.offered ≡ n) × Elements o e.offered × Near o α n e.offered))
   pub corrected : (c : ℕ) → e.kind ≡ Block → e.answer ≡ Ok c → Corrected o α n e.offered e.left c
-  pub kept : (Accepted Block e → ⊥) → e.left ≡ e.offered
+  pub kept : ¬ Accepted Block e → e.left ≡ e.offered
 
 -- Openings, engage orders and releases.
 -- `opening`: accepted exactly when it names 1 to 4096 blocks and the unit is not steering.
@@ -42,9 +38,9 @@ pub record BlockLaw {E : Type 0} (o : Ops E) (α : E) (n : ℕ) (h : List (Event
 -- and no engage order was granted.
 -- `release`: accepted exactly when the unit is steering.
 pub record OrderLaw {E : Type 0} (h : List (Event E)) (e : Event E) : Type 0 where
-  pub opening : e.kind ≡ Open → Accepted Open e iff ((IsSteering h → ⊥) × (1 ≤ e.number) × (e.number ≤ 4096))
-  pub engage : e.kind ≡ Engage → Accepted Engage e iff Grantable h
-  pub release : e.kind ≡ Release → Accepted Release e iff IsSteering h
+  pub opening : e.kind ≡ Open → (Accepted Open e ↔ (¬ IsSteering h × AllowedCount e.number))
+  pub engage : e.kind ≡ Engage → (Accepted Engage e ↔ Grantable h)
+  pub release : e.kind ≡ Release → (Accepted Release e ↔ IsSteering h)
 
 -- h is a day that the unit u has lived
 abbrev pub HasLived : {F E : Type 0} {meaning : Ghosts F E} → List (Event E) → Sealed F E meaning → Type 0

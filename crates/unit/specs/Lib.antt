@@ -3,6 +3,8 @@ pub mod States
 pub mod Sealing
 pub mod Days
 pub mod Orders
+pub mod Commissioning
+pub mod Blocks
 pub mod Law
 pub mod Tasks
 pub mod Reports

@@ -8,7 +8,7 @@ use Rattle.unit.specs.declared.states.State.TheVariants.{Parked, Loading, Ready,
 
 -- the state of a unit after the day h
 abbrev pub InState : {E : Type 0} → List (Event E) → State → Type 0
-InState h Parked = (IsSteering h → ⊥) × ((m c : ℕ) → Loaded h m c → ⊥)
+InState h Parked = ¬ IsSteering h × ((m c : ℕ) → ¬ Loaded h m c)
 InState h Loading = (k : ℕ) × InTurn h k
 InState h Ready = Grantable h
 InState h Steering = IsSteering h
@@ -17,7 +17,7 @@ InState h Steering = IsSteering h
 pub data Changed {E : Type 0} : List (Event E) → ℕ → Type 0 where
   nothing : Changed [] 0
   adds : {e : Event E} {s : List (Event E)} {c d : ℕ} → e.kind ≡ Block → e.answer ≡ Ok d → Changed s c → Changed (e ∷ s) (c + d)
-  passes : {e : Event E} {s : List (Event E)} {c : ℕ} → (Accepted Block e → ⊥) → Changed s c → Changed (e ∷ s) c
+  passes : {e : Event E} {s : List (Event E)} {c : ℕ} → ¬ Accepted Block e → Changed s c → Changed (e ∷ s) c
 
 -- blocks named, blocks taken and symbols changed, since the last opening accepted on the day h: all zero before any
 pub data Tally {E : Type 0} (h : List (Event E)) : ℕ → ℕ → ℕ → Type 0 where

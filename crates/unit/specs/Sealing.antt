@@ -15,8 +15,8 @@ Allowed o α n = AllowedLength n × Generates o α n
 
 -- why sealing with α and n is refused: the length is looked at first
 abbrev pub RefusesSealing : {E : Type 0} → Ops E → E → ℕ → UnitFault → Type 0
-RefusesSealing o α n BlockLength = AllowedLength n → ⊥
-RefusesSealing o α n Generator = AllowedLength n × (Generates o α n → ⊥)
+RefusesSealing o α n BlockLength = ¬ AllowedLength n
+RefusesSealing o α n Generator = AllowedLength n × ¬ Generates o α n
 RefusesSealing o α n (Field fault) = ⊥
 RefusesSealing o α n (WrongState state) = ⊥
 RefusesSealing o α n (BlockCount m) = ⊥

@@ -1,10 +1,10 @@
 -- Tasks, and the day that they make.
 use Rattle.std.specs.Prelude.{◌≡◌, ℕ, List, [], ◌∷◌, ◌++◌, reverse, Some, vec_items}
 use Rattle.algebra.specs.declared.Field.{Ghosts}
-use Rattle.unit.specs.Days.{Event}
+use Rattle.unit.specs.Commissioning.{SealedWith}
+use Rattle.unit.specs.Days.{Event, Throughout}
 use Rattle.unit.specs.Law.{HasLived}
 use Rattle.unit.specs.Orders.{Same}
-use Rattle.unit.specs.Sealing.{Allowed}
 use Rattle.unit.specs.declared.tasks.Task.{Task}
 use Rattle.unit.specs.declared.units.Sealed.{Sealed}
 
@@ -25,6 +25,10 @@ pub data Events {E : Type 0} : List (Task E) → List (Task E) → List (Event E
 abbrev pub Day : {E : Type 0} → List (Task E) → List (Task E) → List (Event E) → Type 0
 Day before after h = Events before after (reverse h)
 
+-- P holds at every order of the day of the tasks, given the events before it
+abbrev pub ThroughoutDay : {E : Type 0} → (List (Event E) → Event E → Type 0) → List (Task E) → List (Task E) → Type 0
+ThroughoutDay {E} P before after = (h : List (Event E)) → Day before after h → Throughout P h
+
 -- the unit u was given the orders of the tasks and is v then
 pub record Carried {F E : Type 0} {meaning : Ghosts F E} (u v : Sealed F E meaning) (before after : List (Task E)) : Type 0 where
   pub same : Same u v
@@ -34,10 +38,7 @@ pub record Carried {F E : Type 0} {meaning : Ghosts F E} (u v : Sealed F E meani
 
 -- A unit was sealed on the field f with α and n, given the orders of the tasks, and is u then: the day of the tasks is the one that it has lived.
 pub record Worked {F E : Type 0} {meaning : Ghosts F E} (f : F) (α : E) (n : ℕ) (before after : List (Task E)) (u : Sealed F E meaning) : Type 0 where
-  pub allowed : Allowed (meaning.ops f) α n
-  pub field_is : u.field ≡ f
-  pub alpha_is : u.alpha ≡ α
-  pub length_is : u.length ≡ n
+  pub sealed : SealedWith f α n u
   pub day : List (Event E)
   pub came : Day before after day
   pub lived : HasLived day u

@@ -1,9 +1,8 @@
 // Whole working days.
-ghost use Rattle.std.specs.Prelude.{◌≡◌, List, MatchResult, OnOk};
-ghost use Rattle.unit.specs.Days.{Event, Throughout};
+ghost use Rattle.std.specs.Prelude.{◌≡◌, MatchResult, OnOk};
+ghost use Rattle.unit.specs.Commissioning.{SealingRefused};
 ghost use Rattle.unit.specs.Law.{FieldLaw, BlockLaw, OrderLaw};
-ghost use Rattle.unit.specs.Sealing.{RefusesSealing};
-ghost use Rattle.unit.specs.Tasks.{Day, Carried, Worked};
+ghost use Rattle.unit.specs.Tasks.{Carried, ThroughoutDay, Worked};
 
 use crate::tasks::Task;
 use crate::units::{Open, Rejected, Sealed};
@@ -28,9 +27,9 @@ pub fn work_day<F: RootedField>(
     tasks: &mut [Task<F::Elem>],
 ) -> Result<Sealed<F>, Rejected<F>>
     ensures field { FieldLaw (F.Field.ops unit.field) }
-    ensures blocks { OnOk result ((h : List (Event F.Elem)) → Day tasks.old tasks.new h → Throughout (BlockLaw (F.Field.ops unit.field) alpha length) h) }
-    ensures orders { OnOk result ((h : List (Event F.Elem)) → Day tasks.old tasks.new h → Throughout OrderLaw h) }
-    ensures tasks { MatchResult result (Worked unit.field alpha length tasks.old tasks.new) (λ e. RefusesSealing (F.Field.ops unit.field) alpha length e.fault × (e.open ≡ unit) × (tasks.new ≡ tasks.old)) }
+    ensures blocks { OnOk result (ThroughoutDay (BlockLaw (F.Field.ops unit.field) alpha length) tasks.old tasks.new) }
+    ensures orders { OnOk result (ThroughoutDay OrderLaw tasks.old tasks.new) }
+    ensures tasks { MatchResult result (Worked unit.field alpha length tasks.old tasks.new) (λ e. SealingRefused (F.Field.ops unit.field) unit alpha length e × (tasks.new ≡ tasks.old)) }
 {
     let mut sealed = unit.seal(alpha, length)?;
     sealed.carry_out(tasks);

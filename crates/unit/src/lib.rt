@@ -3,10 +3,8 @@
 
 mod days;
 mod faults;
-mod moves;
 mod numbers;
 mod orders;
-mod progress;
 mod reports;
 mod sealing;
 mod states;

@@ -1,4 +1,4 @@
-// The numbers of states and refusals, and the layers of refusals.
+// The numbers of states and refusals, and the layers of refusals: written case by case, as their definitions are.
 ghost use Rattle.std.specs.Prelude.{◌≡◌};
 ghost use Rattle.unit.specs.Refusals.{unit_number, unit_layer};
 ghost use Rattle.unit.specs.States.{state_number};

@@ -1,12 +1,12 @@
 // The orders that a sealed unit is given.
-ghost use Rattle.corrector.specs.Correction.{Corrected, Uncorrected};
-ghost use Rattle.std.specs.Result.{MatchResult};
+ghost use Rattle.std.specs.Prelude.{MatchResult};
+ghost use Rattle.unit.specs.Blocks.{CorrectedBy, UncorrectedBy};
 ghost use Rattle.unit.specs.Days.{event};
 ghost use Rattle.unit.specs.Law.{Ordered};
 ghost use Rattle.unit.specs.Orders.{UncorrectedAt, OrderedOnce};
 
 use crate::faults::UnitFault;
-use crate::progress::Progress;
+use crate::reports::Report;
 use crate::states::{Kind, State};
 use crate::units::Sealed;
 use algebra::{Field, RootedField};
@@ -26,16 +26,16 @@ impl<F: RootedField> Sealed<F> {
     ) -> Result<u32, UnitFault>
         ensures { Ordered self.old self.new (event kind number block.old block.new result) }
     {
-        match (self.progress.state, kind) {
-            (State::Steering, Kind::Open) => Err(UnitFault::WrongState(State::Steering)),
-            (_, Kind::Open) => match number {
+        match (kind, self.progress.state) {
+            (Kind::Open, State::Steering) => Err(UnitFault::WrongState(State::Steering)),
+            (Kind::Open, _) => match number {
                 1..=MOST_BLOCKS => {
-                    self.progress = Progress::opened(number);
+                    self.progress = Report::opened(number);
                     Ok(0)
                 }
                 _ => Err(UnitFault::BlockCount(number)),
             },
-            (State::Loading, Kind::Block) => {
+            (Kind::Block, State::Loading) => {
                 if number != self.progress.taken {
                     return Err(UnitFault::OutOfTurn(number));
                 }
@@ -43,26 +43,25 @@ impl<F: RootedField> Sealed<F> {
                 self.progress.advance(changed);
                 Ok(changed)
             }
-            (State::Ready, Kind::Engage) => {
+            (Kind::Engage, State::Ready) => {
                 self.progress.state = State::Steering;
                 Ok(0)
             }
-            (State::Steering, Kind::Release) => {
+            (Kind::Release, State::Steering) => {
                 self.progress.state = State::Parked;
                 Ok(0)
             }
-            (state, _) => Err(UnitFault::WrongState(state)),
+            (_, state) => Err(UnitFault::WrongState(state)),
         }
     }
 
     // Corrects the block of a number, and adds the number to a refusal.
     fn correct_numbered(&self, number: u32, block: &mut [F::Elem]) -> Result<u32, UnitFault>
-        ensures { MatchResult result (Corrected (F.Field.ops self.now.field) self.now.alpha self.now.length block.old block.new) (UncorrectedAt number (Uncorrected (F.Field.ops self.now.field) self.now.alpha self.now.length block.old block.new)) }
+        ensures { MatchResult result (CorrectedBy self.now block.old block.new) (UncorrectedAt number (UncorrectedBy self.now block.old block.new)) }
     {
-        match correct(&self.code(), block) {
-            Ok(changed) => Ok(changed as u32),
-            Err(fault) => Err(UnitFault::Block { number, fault }),
-        }
+        let corrected = correct(&self.code(), block);
+        let changed = corrected.map_err(|fault| UnitFault::Block { number, fault })?;
+        Ok(changed as u32)
     }
 }
 

@@ -1,14 +1,18 @@
 // Making open units, and sealing them.
 ghost use Rattle.std.specs.Prelude.{◌≡◌, IfOk, MatchResult};
-ghost use Rattle.unit.specs.Orders.{Stands};
-ghost use Rattle.unit.specs.Sealing.{Allowed, RefusesSealing};
-ghost use Rattle.unit.specs.declared.states.State.TheVariants.{Parked};
+ghost use Rattle.unit.specs.Commissioning.{HandsBack, SealedWith, SealingRefused};
+ghost use Rattle.unit.specs.Orders.{IsNew};
 
 use crate::faults::UnitFault;
-use crate::progress::Progress;
+use crate::reports::Report;
 use crate::units::{Open, Rejected, Sealed};
 use algebra::{Field, RootedField};
 use code::generates;
+
+// A block has four checks, and at least one symbol of data.
+const SHORTEST_BLOCK: usize = 5;
+
+const LONGEST_BLOCK: usize = 1024;
 
 impl<F: RootedField> Open<F> {
     pub fn new(field: F) -> Open<F>
@@ -19,10 +23,10 @@ impl<F: RootedField> Open<F> {
 
     // Fixes the generator and the block length. A refusal carries the open unit, unchanged.
     pub fn seal(self, alpha: F::Elem, length: usize) -> Result<Sealed<F>, Rejected<F>>
-        ensures answer { MatchResult result (λ u. Allowed (F.Field.ops self.field) alpha length × (u.field ≡ self.field) × (u.alpha ≡ alpha) × (u.length ≡ length)) (λ e. RefusesSealing (F.Field.ops self.field) alpha length e.fault × (e.open ≡ self)) }
-        ensures parked { IfOk result (λ u. Stands u.progress Parked 0 0 0) }
+        ensures answer { MatchResult result (SealedWith self.field alpha length) (SealingRefused (F.Field.ops self.field) self alpha length) }
+        ensures parked { IfOk result (λ u. IsNew u.progress) }
     {
-        if length < 5 || length > 1024 {
+        if !(SHORTEST_BLOCK..=LONGEST_BLOCK).contains(&length) {
             return Err(self.rejected(UnitFault::BlockLength));
         }
         if !generates(&self.field, alpha, length) {
@@ -33,12 +37,12 @@ impl<F: RootedField> Open<F> {
             field,
             alpha,
             length,
-            progress: Progress::parked(),
+            progress: Report::parked(),
         })
     }
 
     fn rejected(self, fault: UnitFault) -> Rejected<F>
-        ensures { (result.fault ≡ fault) × (result.open ≡ self) }
+        ensures { HandsBack fault self result }
     {
         Rejected { fault, open: self }
     }

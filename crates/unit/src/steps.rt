@@ -1,8 +1,6 @@
 // Quadratic steps of an open unit.
-ghost use Rattle.std.specs.Prelude.{◌≡◌, MatchResult};
-ghost use Rattle.algebra.specs.declared.faults.FieldFault.TheVariants.{NotNonsquare};
-ghost use Rattle.quadratic.specs.Pairs.{Nonsquare};
-ghost use Rattle.unit.specs.declared.faults.UnitFault.TheVariants as faults;
+ghost use Rattle.std.specs.Prelude.{MatchResult};
+ghost use Rattle.unit.specs.Commissioning.{Reopened, Stepped, StepRefused};
 
 use crate::faults::UnitFault;
 use crate::units::{Open, Rejected};
@@ -11,7 +9,7 @@ use quadratic::{Quad, Unextended};
 
 // The field's refusal becomes the unit's, and the field goes back into an open unit.
 impl<F: RootedField> From<Unextended<F>> for Rejected<F> {
-    ghost from_gives = { λ e r. (r.fault ≡ faults.Field e.fault) × (r.open.field ≡ e.base) };
+    ghost from_gives = { Reopened };
 
     fn from(refusal: Unextended<F>) -> Rejected<F> {
         let Unextended { fault, base } = refusal;
@@ -25,7 +23,7 @@ impl<F: RootedField> From<Unextended<F>> for Rejected<F> {
 impl<F: RootedField> Open<F> {
     // The unit on the field with a square root of beta added. A refusal carries the open unit, unchanged.
     pub fn step(self, beta: F::Elem) -> Result<Open<Quad<F>>, Rejected<F>>
-        ensures { MatchResult result (λ u. Nonsquare (F.Field.ops self.field) beta × (u.field.base ≡ self.field) × (u.field.beta ≡ beta)) (λ e. (Nonsquare (F.Field.ops self.field) beta → ⊥) × (e.fault ≡ faults.Field NotNonsquare) × (e.open ≡ self)) }
+        ensures { MatchResult result (Stepped self beta) (StepRefused (F.Field.ops self.field) self beta) }
     {
         let Open { field } = self;
         let field = Quad::new(field, beta)?;

@@ -2,6 +2,7 @@
 use crate::faults::UnitFault;
 use crate::states::Kind;
 
+// The block is a Vec that the caller allocates: this crate allocates nothing.
 // An order with its own block, and the answer once it is given.
 #[derive(Drop)]
 pub struct Task<E> {

@@ -1,6 +1,6 @@
 // Writing blocks with a sealed unit.
 ghost use Rattle.std.specs.Prelude.{◌≡◌, MatchResult};
-ghost use Rattle.writer.specs.Writing.{Written, Unwritten};
+ghost use Rattle.unit.specs.Blocks.{WrittenBy, UnwrittenBy};
 
 use crate::units::Sealed;
 use algebra::{Field, RootedField};
@@ -22,7 +22,7 @@ impl<F: RootedField> Sealed<F> {
 
     // Writes the checks of a block by the unit's generator and length. The unit stays as it is.
     pub fn encode(&self, block: &mut [F::Elem]) -> Result<(), CodeFault>
-        ensures { MatchResult result (λ _. Written (F.Field.ops self.now.field) self.now.alpha self.now.length block.old block.new) (Unwritten (F.Field.ops self.now.field) self.now.length block.old block.new) }
+        ensures { MatchResult result (λ _. WrittenBy self.now block.old block.new) (UnwrittenBy self.now block.old block.new) }
     {
         writer::encode(&self.code(), block)
     }
