@@ -29,7 +29,7 @@ pub returns-in-Err : goal.returns-in-Err
 returns-in-Err g c =
     let o = g.F.Field.ops c.args.unit.field in
     let f = g.F.Elem.Coordinates.flat in
-    let (square, due, kept) = c.in-Err.ensures in (
+    let (square, (due, kept)) = c.in-Err.ensures in (
       inl (subst (λ e. StepOutcome o f unsealed (step c.args.numbers.now) (same unsealed) (refused (Unit e))) (sym due)
           (step_refused c.in-Some.beta refl c.in-Some.ensures square)),
       ap (λ u. u.field) kept,
