@@ -17,6 +17,7 @@ pub use roots::{find_root, roots_are_unique};
 
 // A field: a value that computes with elements of the type `Elem`. Every value of such a type keeps the laws.
 // Every method but `contains` is given elements, and leaves the field as it was.
+// Elements are plain values, numbers or pairs, which no type can tie to a field: so each method asks that its arguments are.
 pub trait Field {
     type Elem: Copy;
 
@@ -62,6 +63,7 @@ pub trait Field {
         ensures inside { In (ops self.now) result };
 
     // The sign of a: 0 or 1, and of an element other than zero the opposite of its negative's.
+    // It is a number, as in the RFC that it follows.
     fn sign(&self, a: Self::Elem) -> u8
         requires { In (ops self.now) a }
         ensures { result ≡ (ops self.now).sign a };

@@ -3,13 +3,17 @@ use Rattle.std.specs.Prelude.{◌≡◌, ℕ, suc, ◌⊎◌, List, codes}
 use Rattle.algebra.specs.Operations.{Ops}
 use Rattle.algebra.specs.declared.Field.{Ghosts}
 use Rattle.algebra.specs.declared.faults.FieldFault.TheVariants.{NotNonsquare}
-use Rattle.lines.specs.Lines.{Content, step}
+use Rattle.lines.specs.Lines.{Content, meant, step}
 use Rattle.quadratic.specs.Pairs.{Nonsquare, pairs}
 use Rattle.quadratic.specs.Towers.{Height}
 use Rattle.unit.specs.declared.faults.UnitFault.TheVariants as unit_fault
 use Rattle.console.specs.Commissions.{field_of, phase}
 use Rattle.console.specs.Conversation.{Phase, unsealed, Position, unit_on, Response, accepted, refused, UnitInOrder, UnitOutcome}
+use Rattle.console.specs.Replies.{response}
+use Rattle.console.specs.declared.commissions.Commission.{Commission}
 use Rattle.console.specs.declared.faults.ShiftFault.TheVariants.{Unreadable, Unit}
+use Rattle.console.specs.declared.inputs.NumberedLine.{NumberedLine}
+use Rattle.console.specs.declared.replies.Answer.{Answer}
 use Rattle.console.specs.declared.steps.Stepped.{Stepped}
 use Rattle.console.specs.declared.steps.Stepped.TheVariants.{Same, Higher}
 
@@ -50,3 +54,9 @@ pub data StepOutcome {E : Type 0} (o : Ops E) (coordinates_of : E → List ℕ) 
 abbrev pub StepHandled : {E : Type 0} → Ops E → (E → List ℕ) → Phase E → ℕ → Content → Place E → Response → Type 0
 StepHandled o coordinates_of s k x p r =
     StepOutcome o coordinates_of s x p r ⊎ ((StepInOrder coordinates_of s x → ⊥) × (p ≡ same s) × (r ≡ refused (Unreadable k)))
+
+-- the same of a unit: it stays on its field, or is open on the extension of it
+abbrev pub StepAnswered : {F E : Type 0} {meaning : Ghosts F E} → (E → List ℕ) → Commission F E meaning → NumberedLine → Answer (Stepped F E meaning) → Type 0
+StepAnswered {meaning = m} coordinates_of u i a =
+    StepHandled (m.ops (field_of u)) coordinates_of (phase u) i.number (meant i.line) (place a.left) (response a.reply)
+    × (ground a.left ≡ field_of u)

@@ -8,6 +8,7 @@ ghost use Rattle.console.specs.Stages.{position};
 
 use crate::commissions::Commission;
 use crate::faults::ShiftFault;
+use crate::inputs::NumberedLine;
 use crate::replies::{Answer, Reply, unreadable};
 use crate::stages::Stage;
 use crate::steps::answer_steps;
@@ -18,11 +19,12 @@ use prime_field::{PrimeField, is_listed};
 use std::alloc::{AllocError, Global};
 use unit::Open;
 
-fn answer_start(k: u64, line: Line) -> Answer<Stage>
-    ensures { Handled begun k (meant line) (position result.left) (response result.reply) }
+fn answer_start(input: NumberedLine) -> Answer<Stage>
+    ensures { Handled begun input.number (meant input.line) (position result.left) (response result.reply) }
 {
+    let NumberedLine { number, line } = input;
     let Line::Prime(p) = line else {
-        return unreadable(Stage::Start, k);
+        return unreadable(Stage::Start, number);
     };
     if !is_listed(p) {
         return Answer {
@@ -36,11 +38,12 @@ fn answer_start(k: u64, line: Line) -> Answer<Stage>
     }
 }
 
-fn answer_prime(p: u32, k: u64, line: Line) -> Answer<Stage>
-    ensures { Handled (prime_given p) k (meant line) (position result.left) (response result.reply) }
+fn answer_prime(p: u32, input: NumberedLine) -> Answer<Stage>
+    ensures { Handled (prime_given p) input.number (meant input.line) (position result.left) (response result.reply) }
 {
+    let NumberedLine { number, line } = input;
     let Line::Nonresidue(r) = line else {
-        return unreadable(Stage::Prime(p), k);
+        return unreadable(Stage::Prime(p), number);
     };
     match PrimeField::new(p, r) {
         Ok(field) => Answer {
@@ -54,17 +57,17 @@ fn answer_prime(p: u32, k: u64, line: Line) -> Answer<Stage>
     }
 }
 
-// What comes of line number k, once it is read.
-fn answer_read(heap: Global, stage: Stage, k: u64, line: Line) -> Result<Answer<Stage>, AllocError>
-    ensures { IfOk result (λ a. Handled (position stage) k (meant line) (position a.left) (response a.reply)) }
+// What comes of a line.
+fn answer_read(heap: Global, stage: Stage, input: NumberedLine) -> Result<Answer<Stage>, AllocError>
+    ensures { IfOk result (λ a. Handled (position stage) input.number (meant input.line) (position a.left) (response a.reply)) }
 {
     match stage {
-        Stage::Start => Ok(answer_start(k, line)),
-        Stage::Prime(p) => Ok(answer_prime(p, k, line)),
-        Stage::Single(unit) => Ok(answer_steps(heap, unit, k, line)?.map(|left| Stage::from(left))),
-        Stage::Double(unit) => Ok(answer_steps(heap, unit, k, line)?.map(|left| Stage::from(left))),
+        Stage::Start => Ok(answer_start(input)),
+        Stage::Prime(p) => Ok(answer_prime(p, input)),
+        Stage::Single(unit) => Ok(answer_steps(heap, unit, input)?.map(|left| Stage::from(left))),
+        Stage::Double(unit) => Ok(answer_steps(heap, unit, input)?.map(|left| Stage::from(left))),
         Stage::Quadruple(unit) => {
-            Ok(answer_unit(heap, unit, k, line)?.map(|left| Stage::Quadruple(left)))
+            Ok(answer_unit(heap, unit, input)?.map(|left| Stage::Quadruple(left)))
         }
     }
 }
@@ -79,7 +82,7 @@ pub fn answer_line(
     ensures { IfOk result (λ a. Answers (position stage) k bytes.now (position a.left) (response a.reply)) }
 {
     match read_line(heap, bytes)? {
-        Some(line) => answer_read(heap, stage, k, line),
+        Some(line) => answer_read(heap, stage, NumberedLine { number: k, line }),
         None => Ok(unreadable(stage, k)),
     }
 }

@@ -38,7 +38,9 @@ impl Console {
 
     // Reads up to the end of one line, and answers it. Where no line ends in the piece, all of it is read.
     pub fn feed_line<'a>(&mut self, piece: &'a [u8]) -> Result<Option<Answered<'a>>, AllocError>
-        ensures { IfOk result (λ o. MatchOption o (Continues (waiting self.old) piece.now [] (waiting self.new) []) (λ a. AnswersOne (waiting self.old) piece.now (response a.reply) (waiting self.new) a.rest.now)) }
+        ensures { IfOk result (λ o. MatchOption o
+            (Continues (waiting self.old) piece.now [] (waiting self.new) [])
+            (λ a. AnswersOne (waiting self.old) piece.now (response a.reply) (waiting self.new) a.rest.now)) }
     {
         if self.ended {
             return Ok(None);
@@ -66,7 +68,9 @@ impl Console {
 
     // The input is over: a line that has begun ends here.
     pub fn finish(mut self) -> Result<Option<Result<Reply, ShiftFault>>, AllocError>
-        ensures { IfOk result (λ o. MatchOption o (Responds (waiting self) [] []) (λ reply. Responds (waiting self) [] (response reply ∷ []))) }
+        ensures { IfOk result (λ o. MatchOption o
+            (Responds (waiting self) [] [])
+            (λ reply. Responds (waiting self) [] (response reply ∷ []))) }
     {
         if self.ended || self.held.is_empty() {
             return Ok(None);
@@ -142,7 +146,9 @@ impl Console {
         piece: &'a [u8],
         out: &mut Vec<u8>,
     ) -> Result<Option<&'a [u8]>, AllocError>
-        ensures { IfOk result (λ o. MatchOption o (Continues (waiting self.old) piece.now [] (waiting self.new) [] × (out.new.items ≡ out.old.items)) (λ rest. WritesOne (waiting self.old) piece.now (waiting self.new) rest.now out.old.items out.new.items)) }
+        ensures { IfOk result (λ o. MatchOption o
+            (Continues (waiting self.old) piece.now [] (waiting self.new) [] × (out.new.items ≡ out.old.items))
+            (λ rest. WritesOne (waiting self.old) piece.now (waiting self.new) rest.now out.old.items out.new.items)) }
     {
         let Some(answered) = self.feed_line(piece)? else {
             return Ok(None);

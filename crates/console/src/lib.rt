@@ -7,6 +7,7 @@ mod console;
 mod coordinates;
 mod faults;
 mod feeding;
+mod inputs;
 mod numbers;
 mod replies;
 mod stages;

@@ -42,7 +42,7 @@ pub fn unreadable<S>(left: S, k: u64) -> Answer<S>
 
 impl<S> Answer<S> {
     // The answer that leaves what f makes of this one's.
-    pub fn map<T, F: FnOnce(S) -> T>(self, f: F) -> Answer<T>
+    pub(crate) fn map<T, F: FnOnce(S) -> T>(self, f: F) -> Answer<T>
         requires { F.pre f self.left }
         ensures left { F.post f self.left result.left }
         ensures reply { result.reply ≡ self.reply }

@@ -1,17 +1,17 @@
 // Lines to a unit that may still step up: a step, or a line as to any unit.
 ghost use Rattle.std.specs.Prelude.{◌≡◌, IfOk};
-ghost use Rattle.lines.specs.Lines.{meant, step};
-ghost use Rattle.console.specs.Commissions.{field_of, phase};
+ghost use Rattle.lines.specs.Lines.{step};
 ghost use Rattle.console.specs.Conversation.{unsealed};
 ghost use Rattle.console.specs.Replies.{response};
 ghost use Rattle.console.specs.Stages.{position};
-ghost use Rattle.console.specs.Steps.{StepHandled, ground, place, placed};
+ghost use Rattle.console.specs.Steps.{StepAnswered, StepHandled, ground, place, placed};
 ghost use Rattle.prime_field.specs.Modular.{modular};
 ghost use Rattle.quadratic.specs.Pairs.{pairs};
 
 use crate::commissions::Commission;
 use crate::coordinates::Coordinates;
 use crate::faults::ShiftFault;
+use crate::inputs::NumberedLine;
 use crate::replies::{Answer, Reply, unreadable};
 use crate::stages::Stage;
 use crate::units::answer_unit;
@@ -29,33 +29,40 @@ pub enum Stepped<F: RootedField> {
     Higher(Open<Quad<F>>),
 }
 
-// What comes of line number k, once it is read.
+// What comes of a line.
 pub fn answer_steps<F: RootedField + Drop>(
     heap: Global,
     unit: Commission<F>,
-    k: u64,
-    line: Line,
+    input: NumberedLine,
 ) -> Result<Answer<Stepped<F>>, AllocError>
 where
     F::Elem: Coordinates,
-    ensures { IfOk result (λ a. StepHandled (F.Field.ops (field_of unit)) F.Elem.Coordinates.flat (phase unit) k (meant line) (place a.left) (response a.reply) × (ground a.left ≡ field_of unit)) }
+    ensures { IfOk result (StepAnswered F.Elem.Coordinates.flat unit input) }
 {
+    let NumberedLine { number, line } = input;
     let Line::Step(numbers) = line else {
-        return Ok(answer_unit(heap, unit, k, line)?.map(|left| Stepped::Same(left)));
+        let input = NumberedLine { number, line };
+        return Ok(answer_unit(heap, unit, input)?.map(|left| Stepped::Same(left)));
     };
     let Commission::Open(open) = unit else {
-        return Ok(unreadable(Stepped::Same(unit), k));
+        return Ok(unreadable(Stepped::Same(unit), number));
     };
-    Ok(answer_step(open, k, numbers.as_slice()))
+    Ok(answer_step(open, number, numbers.as_slice()))
 }
 
-fn answer_step<F: RootedField + Drop>(unit: Open<F>, k: u64, numbers: &[u32]) -> Answer<Stepped<F>>
+fn answer_step<F: RootedField + Drop>(
+    unit: Open<F>,
+    number: u64,
+    numbers: &[u32],
+) -> Answer<Stepped<F>>
 where
     F::Elem: Coordinates,
-    ensures { StepHandled (F.Field.ops unit.field) F.Elem.Coordinates.flat unsealed k (step numbers.now) (place result.left) (response result.reply) × (ground result.left ≡ unit.field) }
+    ensures handled { let o = F.Field.ops unit.field in
+        StepHandled o F.Elem.Coordinates.flat unsealed number (step numbers.now) (place result.left) (response result.reply) }
+    ensures field { ground result.left ≡ unit.field }
 {
     let Some(beta) = F::Elem::from_numbers(numbers) else {
-        return unreadable(Stepped::Same(Commission::Open(unit)), k);
+        return unreadable(Stepped::Same(Commission::Open(unit)), number);
     };
     match unit.step(beta) {
         Ok(higher) => Answer {
@@ -71,7 +78,8 @@ where
 
 // No generic function makes the stage: a bound cannot yet speak of a closure, or a conversion, of a unit on the extension of its parameter.
 impl From<Stepped<PrimeField>> for Stage {
-    ghost from_gives = { λ left stage. position stage ≡ placed 0 (modular (ground left).modulus) (place left) };
+    ghost from_gives = { λ left stage.
+        position stage ≡ placed 0 (modular (ground left).modulus) (place left) };
 
     fn from(left: Stepped<PrimeField>) -> Stage {
         match left {
@@ -82,7 +90,8 @@ impl From<Stepped<PrimeField>> for Stage {
 }
 
 impl From<Stepped<Quad<PrimeField>>> for Stage {
-    ghost from_gives = { λ left stage. position stage ≡ placed 1 (pairs (modular (ground left).base.modulus) (ground left).beta) (place left) };
+    ghost from_gives = { λ left stage.
+        position stage ≡ placed 1 (pairs (modular (ground left).base.modulus) (ground left).beta) (place left) };
 
     fn from(left: Stepped<Quad<PrimeField>>) -> Stage {
         match left {

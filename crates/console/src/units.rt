@@ -1,68 +1,68 @@
 // Lines to a unit, once its steps are made: the same over every field.
-ghost use Rattle.std.specs.Prelude.{◌≡◌, IfOk};
-ghost use Rattle.lines.specs.Lines.{meant};
-ghost use Rattle.console.specs.Commissions.{field_of, phase};
-ghost use Rattle.console.specs.Conversation.{unsealed, alpha_given, sealed};
-ghost use Rattle.console.specs.Handling.{Finds, UnitHandled};
+ghost use Rattle.std.specs.Prelude.{IfOk};
+ghost use Rattle.console.specs.Handling.{Finds, UnitAnswered};
 ghost use Rattle.console.specs.Replies.{response};
+ghost use Rattle.console.specs.declared.commissions.Commission.TheVariants as commissions;
 
 use crate::commissions::Commission;
 use crate::coordinates::Coordinates;
 use crate::faults::ShiftFault;
+use crate::inputs::NumberedLine;
 use crate::replies::{Answer, Reply, unreadable};
 use algebra::{Field, RootedField, find_root};
 use lines::Line;
 use std::alloc::{AllocError, Global};
 use unit::{Open, Sealed};
 
-// What comes of line number k, once it is read.
+// What comes of a line.
 pub fn answer_unit<F: RootedField + Drop>(
     heap: Global,
     unit: Commission<F>,
-    k: u64,
-    line: Line,
+    input: NumberedLine,
 ) -> Result<Answer<Commission<F>>, AllocError>
 where
     F::Elem: Coordinates,
-    ensures { IfOk result (λ a. UnitHandled (F.Field.ops (field_of unit)) F.Elem.Coordinates.flat (phase unit) k (meant line) (phase a.left) (response a.reply) × (field_of a.left ≡ field_of unit)) }
+    ensures { IfOk result (UnitAnswered F.Elem.Coordinates.flat unit input) }
 {
     match unit {
-        Commission::Open(open) => Ok(answer_open(open, k, line)),
-        Commission::Generator(open, alpha) => Ok(answer_generator(open, alpha, k, line)),
-        Commission::Sealed(sealed) => answer_sealed(heap, sealed, k, line),
+        Commission::Open(open) => Ok(answer_open(open, input)),
+        Commission::Generator(open, alpha) => Ok(answer_generator(open, alpha, input)),
+        Commission::Sealed(sealed) => answer_sealed(heap, sealed, input),
     }
 }
 
-fn answer_open<F: RootedField + Drop>(unit: Open<F>, k: u64, line: Line) -> Answer<Commission<F>>
+fn answer_open<F: RootedField + Drop>(unit: Open<F>, input: NumberedLine) -> Answer<Commission<F>>
 where
     F::Elem: Coordinates,
-    ensures { (UnitHandled (F.Field.ops unit.field) F.Elem.Coordinates.flat unsealed k (meant line) (phase result.left) (response result.reply)) × (field_of result.left ≡ unit.field) }
+    ensures { UnitAnswered F.Elem.Coordinates.flat (commissions.Open unit) input result }
 {
+    let NumberedLine { number, line } = input;
     let Line::Alpha(numbers) = line else {
-        return unreadable(Commission::Open(unit), k);
+        return unreadable(Commission::Open(unit), number);
     };
     match F::Elem::from_numbers(numbers.as_slice()) {
         Some(alpha) => Answer {
             left: Commission::Generator(unit, alpha),
             reply: Ok(Reply::Alpha),
         },
-        None => unreadable(Commission::Open(unit), k),
+        None => unreadable(Commission::Open(unit), number),
     }
 }
 
 fn answer_generator<F: RootedField + Drop>(
     unit: Open<F>,
     alpha: F::Elem,
-    k: u64,
-    line: Line,
+    input: NumberedLine,
 ) -> Answer<Commission<F>>
 where
     F::Elem: Coordinates,
-    ensures { (UnitHandled (F.Field.ops unit.field) F.Elem.Coordinates.flat (alpha_given alpha) k (meant line) (phase result.left) (response result.reply)) × (field_of result.left ≡ unit.field) }
+    ensures { UnitAnswered F.Elem.Coordinates.flat (commissions.Generator unit alpha) input result }
 {
+    let NumberedLine { number, line } = input;
     let Line::Length(n) = line else {
-        return unreadable(Commission::Generator(unit, alpha), k);
+        return unreadable(Commission::Generator(unit, alpha), number);
     };
+    // A `usize` has 32 bits or more, so the cast loses nothing.
     match unit.seal(alpha, n as usize) {
         Ok(sealed) => Answer {
             left: Commission::Sealed(sealed),
@@ -78,18 +78,18 @@ where
 fn answer_sealed<F: RootedField + Drop>(
     heap: Global,
     unit: Sealed<F>,
-    k: u64,
-    line: Line,
+    input: NumberedLine,
 ) -> Result<Answer<Commission<F>>, AllocError>
 where
     F::Elem: Coordinates,
-    ensures { IfOk result (λ a. UnitHandled (F.Field.ops unit.field) F.Elem.Coordinates.flat (sealed unit.alpha unit.length) k (meant line) (phase a.left) (response a.reply) × (field_of a.left ≡ unit.field)) }
+    ensures { IfOk result (UnitAnswered F.Elem.Coordinates.flat (commissions.Sealed unit) input) }
 {
+    let NumberedLine { number, line } = input;
     let Line::Find(numbers) = line else {
-        return Ok(unreadable(Commission::Sealed(unit), k));
+        return Ok(unreadable(Commission::Sealed(unit), number));
     };
     let Some(x) = F::Elem::from_numbers(numbers.as_slice()) else {
-        return Ok(unreadable(Commission::Sealed(unit), k));
+        return Ok(unreadable(Commission::Sealed(unit), number));
     };
     let reply = answer_find(heap, unit.field(), x)?;
     Ok(Answer {

@@ -21,7 +21,9 @@ use std::alloc::{AllocError, Global};
 
 // The parts before and after the first `mark`, or None where there is no mark.
 pub fn cut(text: &[u8], mark: u8) -> Option<(&[u8], &[u8])>
-    ensures { MatchOption result (LacksByte mark text.now) (λ p. LacksByte mark p.0.now × (text.now ≡ p.0.now ++ mark ∷ p.1.now)) }
+    ensures { MatchOption result
+        (LacksByte mark text.now)
+        (λ p. LacksByte mark p.0.now × (text.now ≡ p.0.now ++ mark ∷ p.1.now)) }
 {
     let place = text.iter().position(|b| *b == mark)?;
     Some((&text[..place], &text[place + 1..]))

@@ -26,7 +26,7 @@ impl Display for Numbers<'_> {
     }
 }
 
-// Appends what the value shows.
+// Appends what the value shows. By way of a text, since `write!` to a `Vec` would fail with another error.
 pub fn put<T: Display>(out: &mut Vec<u8>, value: &T) -> Result<(), AllocError>
     ensures { OnOk result (IfSome (T.output value.now) (λ text. out.new.items ≡ out.old.items ++ text)) }
 {

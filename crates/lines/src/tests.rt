@@ -54,3 +54,12 @@ fn writes_numbers(rt: HostRuntime) -> Result<(), Fail> {
     assert!(rt; out.as_slice() == b"0,929,4294967295".as_slice());
     Ok(())
 }
+
+#[test]
+fn shows_values(rt: HostRuntime) -> Result<(), Fail> {
+    let mut out = Vec::new(rt.alloc());
+    put(&mut out, &Numbers(&[7, 0]))?;
+    put(&mut out, &'x')?;
+    assert!(rt; out.as_slice() == b"7,0x".as_slice());
+    Ok(())
+}

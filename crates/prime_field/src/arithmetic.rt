@@ -9,6 +9,7 @@ pub struct Modulus {
     ghost above_one: { 1 < value },
 }
 
+// A remainder is below the modulus, so the casts back to 32 bits lose nothing.
 impl Modulus {
     pub fn sum(self, a: u32, b: u32) -> u32
         ensures value { result ≡ (a + b) % self.value }

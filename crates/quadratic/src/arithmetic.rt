@@ -8,7 +8,7 @@ use crate::extension::Quad;
 use algebra::{Field, RootedField};
 
 impl<F: RootedField> Field for Quad<F> {
-    // (a0, a1) is a0 + a1·y, where y² = beta
+    // (a0, a1) is a0 + a1·y, where y² = beta. It is a plain pair, so what takes one asks that it is an element.
     type Elem = (F::Elem, F::Elem);
 
     ghost ops = { λ q. pairs (F.Field.ops q.base) q.beta };

@@ -22,7 +22,9 @@ pub struct Unextended<F> {
 
 impl<F: RootedField> Quad<F> {
     pub fn new(base: F, beta: F::Elem) -> Result<Quad<F>, Unextended<F>>
-        ensures { MatchResult result (λ q. Nonsquare (F.Field.ops base) beta × (q.base ≡ base) × (q.beta ≡ beta)) (λ e. (e.base ≡ base) × RefusesExtension (F.Field.ops base) beta e.fault) }
+        ensures { MatchResult result
+            (λ q. Nonsquare (F.Field.ops base) beta × (q.base ≡ base) × (q.beta ≡ beta))
+            (λ e. (e.base ≡ base) × RefusesExtension (F.Field.ops base) beta e.fault) }
     {
         if !base.contains(beta) || base.root(beta).is_some() {
             return Err(Unextended {

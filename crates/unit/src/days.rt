@@ -29,7 +29,9 @@ pub fn work_day<F: RootedField>(
     ensures field { FieldLaw (F.Field.ops unit.field) }
     ensures blocks { OnOk result (ThroughoutDay (BlockLaw (F.Field.ops unit.field) alpha length) tasks.old tasks.new) }
     ensures orders { OnOk result (ThroughoutDay OrderLaw tasks.old tasks.new) }
-    ensures tasks { MatchResult result (Worked unit.field alpha length tasks.old tasks.new) (λ e. SealingRefused (F.Field.ops unit.field) unit alpha length e × (tasks.new ≡ tasks.old)) }
+    ensures tasks { MatchResult result
+        (Worked unit.field alpha length tasks.old tasks.new)
+        (λ e. SealingRefused (F.Field.ops unit.field) unit alpha length e × (tasks.new ≡ tasks.old)) }
 {
     let mut sealed = unit.seal(alpha, length)?;
     sealed.carry_out(tasks);

@@ -18,6 +18,7 @@ const MOST_BLOCKS: u32 = 4096;
 impl<F: RootedField> Sealed<F> {
     // Gives the unit an order. An opening's number is that of the blocks it names, a block's is its own; others have none.
     // The block is lent: only a block order looks at it, and only one that is taken changes it.
+    // An order that is not refused answers 0, and a block the number of symbols changed: one type serves all four kinds.
     pub fn order(
         &mut self,
         kind: Kind,
@@ -26,6 +27,7 @@ impl<F: RootedField> Sealed<F> {
     ) -> Result<u32, UnitFault>
         ensures { Ordered self.old self.new (event kind number block.old block.new result) }
     {
+        // What an order does is decided by its kind and the state together: one `match`, and no table of functions.
         match (kind, self.progress.state) {
             (Kind::Open, State::Steering) => Err(UnitFault::WrongState(State::Steering)),
             (Kind::Open, _) => match number {
@@ -57,10 +59,13 @@ impl<F: RootedField> Sealed<F> {
 
     // Corrects the block of a number, and adds the number to a refusal.
     fn correct_numbered(&self, number: u32, block: &mut [F::Elem]) -> Result<u32, UnitFault>
-        ensures { MatchResult result (CorrectedBy self.now block.old block.new) (UncorrectedAt number (UncorrectedBy self.now block.old block.new)) }
+        ensures { MatchResult result
+            (CorrectedBy self.now block.old block.new)
+            (UncorrectedAt number (UncorrectedBy self.now block.old block.new)) }
     {
         let corrected = correct(&self.code(), block);
         let changed = corrected.map_err(|fault| UnitFault::Block { number, fault })?;
+        // Two at the most, so the cast loses nothing.
         Ok(changed as u32)
     }
 }

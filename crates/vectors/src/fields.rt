@@ -1,4 +1,5 @@
 // Fields and roots in them, against values computed elsewhere. A refusal is known by its number.
+// Rows give the modulus and the nonresidue, and no field: that it is made is tried as well.
 use crate::agreement::Agreement;
 use crate::failures::Failure;
 use algebra::{FieldFault, find_root};

@@ -10,17 +10,17 @@ use Rattle.console.proofs.answers.answer_prime.Goals as goal
 
 pub returns-in_default : goal.returns-in_default
 returns-in_default c =
-    out_of_order (meant c.args.line) c.args.k (Prime c.args.p) c.unreadable.result c.unreadable.ensures.left c.unreadable.ensures.reply
-    (only_nonresidue c.args.p c.args.line c.in_default.not-Nonresidue)
+    out_of_order (meant c.args.input.line) c.args.input.number (Prime c.args.p) c.unreadable.result c.unreadable.ensures.left c.unreadable.ensures.reply
+    (only_nonresidue c.args.p c.args.input.line c.in_default.not-Nonresidue)
 
 pub returns-in-Ok : goal.returns-in-Ok
 returns-in-Ok c =
     let p = c.args.p in
     let kept : p ≡ c.new-in-Ok.result.field.modulus = sym (ap (λ f. f.modulus) c.new-in-Ok.ensures ∙ c.in-Ok.ensures.2) in
-    subst (λ l. Handled (prime_given p) c.args.k (meant l) (unit_on 0 (modular c.new-in-Ok.result.field.modulus) unsealed) (accepted (codes "nonresidue"))) (sym c.in-Nonresidue.is)
+    subst (λ l. Handled (prime_given p) c.args.input.number (meant l) (unit_on 0 (modular c.new-in-Ok.result.field.modulus) unsealed) (accepted (codes "nonresidue"))) (sym c.in-Nonresidue.is)
     (inl (subst (λ (m : ℕ). Outcome (prime_given p) (nonresidue c.in-Nonresidue.r) (unit_on 0 (modular m) unsealed) (accepted (codes "nonresidue"))) kept (field_made c.in-Ok.ensures.1)))
 
 pub returns-in-Err : goal.returns-in-Err
 returns-in-Err c =
-    subst (λ l. Handled (prime_given c.args.p) c.args.k (meant l) (prime_given c.args.p) (refused (Field c.in-Err.fault))) (sym c.in-Nonresidue.is)
+    subst (λ l. Handled (prime_given c.args.p) c.args.input.number (meant l) (prime_given c.args.p) (refused (Field c.in-Err.fault))) (sym c.in-Nonresidue.is)
     (inl (field_refused c.in-Err.fault c.in-Err.ensures))

@@ -18,7 +18,7 @@ returns-in_ok-answer_steps-in-Single c =
     let (h, kept) = c.in_ok-answer_steps-in-Single.ensures in
     let left : position c.map.result.left ≡ placed 0 (modular (ground a.left).modulus) (place a.left) = search rules in
     rw (c.in-Single.is, c.map.ensures.reply)
-    (handled 0 (modular (field_of u).modulus) (omega arith) (modular (ground a.left).modulus) (phase u) (meant c.args.line) c.args.k (response a.reply)
+    (handled 0 (modular (field_of u).modulus) (omega arith) (modular (ground a.left).modulus) (phase u) (meant c.args.input.line) c.args.input.number (response a.reply)
     (place a.left) (position c.map.result.left) (ap (λ f. modular f.modulus) kept) left h)
 
 pub returns-in_ok-answer_steps-in-Double : goal.returns-in_ok-answer_steps-in-Double
@@ -30,7 +30,7 @@ returns-in_ok-answer_steps-in-Double c =
     let left : position m.result.left ≡ placed 1 (pairs (modular (ground a.left).base.modulus) (ground a.left).beta) (place a.left) = search rules in
     rw (c.in-Double.is, m.ensures.reply)
     (handled 1 (pairs (modular (field_of u).base.modulus) (field_of u).beta) (omega arith) (pairs (modular (ground a.left).base.modulus) (ground a.left).beta)
-    (phase u) (meant c.args.line) c.args.k (response a.reply) (place a.left) (position m.result.left) (ap (λ f. pairs (modular f.base.modulus) f.beta) kept) left h)
+    (phase u) (meant c.args.input.line) c.args.input.number (response a.reply) (place a.left) (position m.result.left) (ap (λ f. pairs (modular f.base.modulus) f.beta) kept) left h)
 
 pub returns-in_ok-answer_unit-in-Quadruple : goal.returns-in_ok-answer_unit-in-Quadruple
 returns-in_ok-answer_unit-in-Quadruple c =
@@ -42,5 +42,5 @@ returns-in_ok-answer_unit-in-Quadruple c =
     rw (c.in-Quadruple.is, left, m.ensures.reply)
     (unit_answered 2 (pairs (pairs (modular (field_of u).base.base.modulus) (field_of u).base.beta) (field_of u).beta)
     (pairs (pairs (modular (field_of a.left).base.base.modulus) (field_of a.left).base.beta) (field_of a.left).beta)
-    (phase u) (phase a.left) (meant c.args.line) c.args.k (response a.reply)
+    (phase u) (phase a.left) (meant c.args.input.line) c.args.input.number (response a.reply)
     (ap (λ f. pairs (pairs (modular f.base.base.modulus) f.base.beta) f.beta) kept) (λ xs e l. omega arith) h)

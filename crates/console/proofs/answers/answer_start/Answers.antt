@@ -10,15 +10,15 @@ use Rattle.console.proofs.answers.answer_start.Goals as goal
 
 pub returns-in_default : goal.returns-in_default
 returns-in_default c =
-    out_of_order (meant c.args.line) c.args.k Start c.unreadable.result c.unreadable.ensures.left c.unreadable.ensures.reply
-    (only_prime c.args.line c.in_default.not-Prime)
+    out_of_order (meant c.args.input.line) c.args.input.number Start c.unreadable.result c.unreadable.ensures.left c.unreadable.ensures.reply
+    (only_prime c.args.input.line c.in_default.not-Prime)
 
 pub returns-then-not-is_listed : goal.returns-then-not-is_listed
 returns-then-not-is_listed c =
-    subst (λ l. Handled begun c.args.k (meant l) begun (refused (Field UnlistedModulus))) (sym c.in-Prime.is)
+    subst (λ l. Handled begun c.args.input.number (meant l) begun (refused (Field UnlistedModulus))) (sym c.in-Prime.is)
     (inl (prime_unlisted (λ l. let yes : false ≡ true = c.if-not-is_listed.ensures.1 l in let z : ◌≡◌ {A = ℕ} 0 1 = cc in omega arith)))
 
 pub returns : goal.returns
 returns c =
-    subst (λ l. Handled begun c.args.k (meant l) (prime_given c.in-Prime.p) (accepted (codes "prime"))) (sym c.in-Prime.is)
+    subst (λ l. Handled begun c.args.input.number (meant l) (prime_given c.in-Prime.p) (accepted (codes "prime"))) (sym c.in-Prime.is)
     (inl (prime_listed (c.if-not-is_listed.ensures.0 refl)))

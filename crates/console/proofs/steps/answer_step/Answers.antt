@@ -12,25 +12,29 @@ pub returns-in_default : goal.returns-in_default
 returns-in_default g c =
     let f = g.F.Elem.Coordinates.flat in
     let xs = c.args.numbers.now in
-    step_out_of_order (g.F.Field.ops c.args.unit.field) f (step xs) c.args.k (Open c.args.unit) c.unreadable.result c.unreadable.ensures.left c.unreadable.ensures.reply
-    (λ h. let (_, (β, is)) = step_element h in no_element f g.F.Elem.Coordinates.width g.met.F.Elem.Coordinates.long xs c.in_default.ensures β is)
+    let (handled, field) =
+    step_out_of_order (g.F.Field.ops c.args.unit.field) f (step xs) c.args.number (Open c.args.unit) c.unreadable.result c.unreadable.ensures.left c.unreadable.ensures.reply
+    (λ h. let (_, (β, is)) = step_element h in no_element f g.F.Elem.Coordinates.width g.met.F.Elem.Coordinates.long xs c.in_default.ensures β is) in
+    record { handled = handled; field = field }
 
 pub returns-in-Ok : goal.returns-in-Ok
 returns-in-Ok g c =
     let o = g.F.Field.ops c.args.unit.field in
     let f = g.F.Elem.Coordinates.flat in
-    let (nonsquare, base, beta) = c.in-Ok.ensures in (
-      subst (λ b. StepHandled o f unsealed c.args.k (step c.args.numbers.now) (higher b) (accepted (codes "step"))) (sym beta)
-          (inl (stepped c.in-Some.beta refl c.in-Some.ensures nonsquare)),
-      base,
-    )
+    let (nonsquare, base, beta) = c.in-Ok.ensures in
+    record {
+      handled = subst (λ b. StepHandled o f unsealed c.args.number (step c.args.numbers.now) (higher b) (accepted (codes "step"))) (sym beta)
+          (inl (stepped c.in-Some.beta refl c.in-Some.ensures nonsquare));
+      field = base;
+    }
 
 pub returns-in-Err : goal.returns-in-Err
 returns-in-Err g c =
     let o = g.F.Field.ops c.args.unit.field in
     let f = g.F.Elem.Coordinates.flat in
-    let (square, (due, kept)) = c.in-Err.ensures in (
-      inl (subst (λ e. StepOutcome o f unsealed (step c.args.numbers.now) (same unsealed) (refused (Unit e))) (sym due)
-          (step_refused c.in-Some.beta refl c.in-Some.ensures square)),
-      ap (λ u. u.field) kept,
-    )
+    let (square, (due, kept)) = c.in-Err.ensures in
+    record {
+      handled = inl (subst (λ e. StepOutcome o f unsealed (step c.args.numbers.now) (same unsealed) (refused (Unit e))) (sym due)
+          (step_refused c.in-Some.beta refl c.in-Some.ensures square));
+      field = ap (λ u. u.field) kept;
+    }
