@@ -52,7 +52,7 @@ impl Console {
                     rest: &piece[piece.len()..],
                 }));
             }
-            self.hold(piece)?;
+            self.keep(piece)?;
             return Ok(None);
         };
         if !self.has_room(front) {
@@ -61,7 +61,7 @@ impl Console {
                 rest,
             }));
         }
-        self.hold(front)?;
+        self.keep(front)?;
         let reply = self.answer_held()?;
         Ok(Some(Answered { reply, rest }))
     }
@@ -86,7 +86,7 @@ impl Console {
     }
 
     // Holds a part of a line too.
-    fn hold(&mut self, part: &[u8]) -> Result<(), AllocError>
+    fn keep(&mut self, part: &[u8]) -> Result<(), AllocError>
         requires line { LacksByte 10 part.now }
         requires room { length ((waiting self.old).held ++ part.now) ≤ longest }
         ensures { OnOk result (Holds (waiting self.old) part.now (waiting self.new)) }

@@ -13,7 +13,7 @@ use Rattle.unit.specs.Law.{Near, FieldLaw, BlockLaw, OrderLaw, Ordered}
 use Rattle.unit.specs.Orders.{AllowedCount, Refused, Transition, wrong_state, block_count, opened, out_of_turn, not_corrected, taken, granted, released, Lived, sealed, ordered, Same}
 use Rattle.unit.specs.States.{Fits}
 use Rattle.unit.specs.declared.faults.UnitFault.{UnitFault}
-use Rattle.unit.specs.declared.reports.Report.{Report}
+use Rattle.unit.specs.declared.progress.Progress.{Progress}
 use Rattle.unit.specs.declared.states.Kind.{Kind}
 use Rattle.unit.specs.declared.states.Kind.TheVariants.{Open, Block, Engage, Release}
 use Rattle.unit.specs.declared.units.Sealed.{Sealed}
@@ -35,7 +35,7 @@ module _ {E : Type 0} (o : Ops E) (α : E) (n : ℕ) (h : List (Event E)) (e : E
   of_kind : {k : Kind} {A : Type 0} → e.kind ≡ k → OkAnswer ↔ A → Accepted k e ↔ A
   of_kind q r = (λ a. r.0 a.1, λ x. (q, r.1 x))
 
-  module _ {p q : Report} (v : Summary h p) where
+  module _ {p q : Progress} (v : Summary h p) where
     not_ok : {f : UnitFault} → Refused p q e f → ¬ OkAnswer
     not_ok r a = cc r.answer_is
 
@@ -111,10 +111,10 @@ by_transition {m = m} laws rooted {u} {v} {e} s t =
 
 -- the law holds at every order of a day that a unit has lived
 module _ {E : Type 0} {o : Ops E} {α : E} {n : ℕ} where
-  pub blocks_throughout : {h : List (Event E)} {p : Report} → Lived o α n h p → Throughout (BlockLaw o α n) h
+  pub blocks_throughout : {h : List (Event E)} {p : Progress} → Lived o α n h p → Throughout (BlockLaw o α n) h
   blocks_throughout (sealed s) = tt
   blocks_throughout (ordered l t) = (block_law o α n _ _ (summary l) t, blocks_throughout l)
 
-  pub orders_throughout : {h : List (Event E)} {p : Report} → Lived o α n h p → Throughout OrderLaw h
+  pub orders_throughout : {h : List (Event E)} {p : Progress} → Lived o α n h p → Throughout OrderLaw h
   orders_throughout (sealed s) = tt
   orders_throughout (ordered l t) = (order_law o α n _ _ (summary l) t, orders_throughout l)

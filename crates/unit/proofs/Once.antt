@@ -14,15 +14,15 @@ use Rattle.unit.specs.Orders.{AllowedCount, Stands, Advances, Refused, Transitio
 use Rattle.unit.specs.States.{Fits}
 use Rattle.unit.specs.declared.faults.UnitFault.{UnitFault}
 use Rattle.unit.specs.declared.faults.UnitFault.TheVariants as fault
-use Rattle.unit.specs.declared.reports.Report.{Report}
+use Rattle.unit.specs.declared.progress.Progress.{Progress}
 use Rattle.unit.specs.declared.states.Kind.{Kind}
 use Rattle.unit.specs.declared.states.Kind.TheVariants.{Open, Block, Engage, Release}
 use Rattle.unit.specs.declared.states.State.{State}
 use Rattle.unit.specs.declared.states.State.TheVariants.{Parked, Loading, Ready, Steering}
 
 -- reports are equal where its state and its numbers are: the facts beside them have one proof each
-report_equal : (p q : Report) → p.state ≡ q.state → p.named ≡ q.named → p.taken ≡ q.taken → p.changed ≡ q.changed → p ≡ q
-report_equal p q s a b c i = record {
+progress_equal : (p q : Progress) → p.state ≡ q.state → p.named ≡ q.named → p.taken ≡ q.taken → p.changed ≡ q.changed → p ≡ q
+progress_equal p q s a b c i = record {
   state = s i;
   named = a i;
   taken = b i;
@@ -34,25 +34,25 @@ report_equal p q s a b c i = record {
   full = is_prop→PathP (λ j. s j ≡ Ready → b j ≡ a j) (λ j. hlevel props) p.full q.full i;
 }
 
-stands_once : {p q : Report} {s : State} {m t c : ℕ} → Stands p s m t c → Stands q s m t c → p ≡ q
-stands_once {p} {q} h k = report_equal p q (cc) (cc) (cc) (cc)
+stands_once : {p q : Progress} {s : State} {m t c : ℕ} → Stands p s m t c → Stands q s m t c → p ≡ q
+stands_once {p} {q} h k = progress_equal p q (cc) (cc) (cc) (cc)
 
-advances_once : {p q q' : Report} {c : ℕ} → p.state ≡ Loading → Advances p q c → Advances p q' c → q ≡ q'
+advances_once : {p q q' : Progress} {c : ℕ} → p.state ≡ Loading → Advances p q c → Advances p q' c → q ≡ q'
 advances_once {p} {q} {q'} loading h k =
     let same : q.state ≡ q'.state =
     ⊎_elim (λ l. h.more l ∙ sym (k.more l)) (λ g. let e : p.taken + 1 ≡ p.named = omega (arith, p.room loading) in h.last e ∙ sym (k.last e)) (cases_lt (p.taken + 1) p.named) in
-    report_equal q q' same (cc) (cc) (cc)
+    progress_equal q q' same (cc) (cc) (cc)
 
-module _ {E : Type 0} (o : Ops E) (α : E) (n : ℕ) (p : Report) (m : ℕ) (b : List E) where
+module _ {E : Type 0} (o : Ops E) (α : E) (n : ℕ) (p : Progress) (m : ℕ) (b : List E) where
   -- a refusal with the fault, and what an accepted order leaves that changes no block
-  abbrev Refusal : UnitFault → Report → List E → Result ℕ UnitFault → Type 0
+  abbrev Refusal : UnitFault → Progress → List E → Result ℕ UnitFault → Type 0
   Refusal f q left r = (q ≡ p) × (left ≡ b) × (r ≡ Err f)
 
-  abbrev Move : State → ℕ → ℕ → ℕ → Report → List E → Result ℕ UnitFault → Type 0
+  abbrev Move : State → ℕ → ℕ → ℕ → Progress → List E → Result ℕ UnitFault → Type 0
   Move s named count changed q left r = Stands q s named count changed × (left ≡ b) × (r ≡ Ok 0)
 
   -- what an order of a kind that fits the state leaves
-  abbrev Fitting : Kind → Report → List E → Result ℕ UnitFault → Type 0
+  abbrev Fitting : Kind → Progress → List E → Result ℕ UnitFault → Type 0
   Fitting Open q left r = (¬ AllowedCount m × Refusal (fault.BlockCount m) q left r) ⊎ (AllowedCount m × Move Loading m 0 0 q left r)
   Fitting Block q left r =
       ((m ≢ p.taken) × Refusal (fault.OutOfTurn m) q left r)
@@ -60,10 +60,10 @@ module _ {E : Type 0} (o : Ops E) (α : E) (n : ℕ) (p : Report) (m : ℕ) (b :
   Fitting Engage q left r = Move Steering p.named p.taken p.changed q left r
   Fitting Release q left r = Move Parked p.named p.taken p.changed q left r
 
-  abbrev Outcome : Kind → Report → List E → Result ℕ UnitFault → Type 0
+  abbrev Outcome : Kind → Progress → List E → Result ℕ UnitFault → Type 0
   Outcome k q left r = (¬ Fits k p.state × Refusal (fault.WrongState p.state) q left r) ⊎ (Fits k p.state × Fitting k q left r)
 
-  module _ {k : Kind} {q : Report} {left : List E} {r : Result ℕ UnitFault} where
+  module _ {k : Kind} {q : Progress} {left : List E} {r : Result ℕ UnitFault} where
     refusal : {f : UnitFault} → Refused p q (event k m b left r) f → Refusal f q left r
     refusal x = (x.progress_is, x.block_is, x.answer_is)
 
@@ -80,10 +80,10 @@ module _ {E : Type 0} (o : Ops E) (α : E) (n : ℕ) (p : Report) (m : ℕ) (b :
     outcome (granted is s a x l) = fitting is (s, (x, l, a))
     outcome (released is s a x l) = fitting is (s, (x, l, a))
 
-  abbrev Same : Report → Report → List E → List E → Result ℕ UnitFault → Result ℕ UnitFault → Type 0
+  abbrev Same : Progress → Progress → List E → List E → Result ℕ UnitFault → Result ℕ UnitFault → Type 0
   Same q q' left left' r r' = (q ≡ q') × (left ≡ left') × (r ≡ r')
 
-  module _ {q q' : Report} {left left' : List E} {r r' : Result ℕ UnitFault} where
+  module _ {q q' : Progress} {left left' : List E} {r r' : Result ℕ UnitFault} where
     refused_once : {f g : UnitFault} → f ≡ g → Refusal f q left r → Refusal g q' left' r' → Same q q' left left' r r'
     refused_once e (h, l, a) (h', l', a') = (h ∙ sym h', l ∙ sym l', a ∙ ap Err e ∙ sym a')
 

@@ -5,7 +5,7 @@ use Rattle.algebra.specs.Operations.{Ops}
 use Rattle.unit.specs.Days.{Event, Accepted, Since, IsSteering, Loaded, InTurn, Grantable}
 use Rattle.unit.specs.Orders.{Advances, Refused, Transition, wrong_state, block_count, opened, out_of_turn, not_corrected, taken, granted, released, Lived, sealed, ordered}
 use Rattle.unit.specs.declared.faults.UnitFault.{UnitFault}
-use Rattle.unit.specs.declared.reports.Report.{Report}
+use Rattle.unit.specs.declared.progress.Progress.{Progress}
 use Rattle.unit.specs.declared.states.Kind.{Kind}
 use Rattle.unit.specs.declared.states.Kind.TheVariants.{Open, Block, Engage, Release}
 use Rattle.unit.specs.declared.states.State.{State}
@@ -25,11 +25,11 @@ steering_not_loads p (inl q) = cc
 steering_not_loads p (inr q) = cc
 
 -- the progress p sums up the day h
-pub record Summary {E : Type 0} (h : List (Event E)) (p : Report) : Type 0 where
+pub record Summary {E : Type 0} (h : List (Event E)) (p : Progress) : Type 0 where
   pub steering : IsSteering h ↔ (p.state ≡ Steering)
   pub loaded : (m c : ℕ) → Loaded h m c ↔ (Loads p.state × (p.named ≡ m) × (p.taken ≡ c))
 
-module _ {E : Type 0} {h : List (Event E)} {p : Report} (v : Summary h p) where
+module _ {E : Type 0} {h : List (Event E)} {p : Progress} (v : Summary h p) where
   pub turn_to : (k : ℕ) → InTurn h k → (p.state ≡ Loading) × (k ≡ p.taken)
   turn_to k (m, l, more) =
       let (loads, named, count) = (v.loaded m k).0 l in
@@ -46,15 +46,15 @@ module _ {E : Type 0} {h : List (Event E)} {p : Report} (v : Summary h p) where
   pub grant_from : p.state ≡ Ready → Grantable h
   grant_from s = (p.named, (v.loaded p.named p.named).1 (inr s, refl, p.full s))
 
-advances_to_loads : (p q : Report) (c : ℕ) → Advances p q c → p.taken < p.named → Loads q.state
+advances_to_loads : (p q : Progress) (c : ℕ) → Advances p q c → p.taken < p.named → Loads q.state
 advances_to_loads p q c a r =
     ⊎_elim (λ (l : p.taken + 1 < p.named). inl (a.more l)) (λ (l : p.named ≤ p.taken + 1). inr (a.last (omega arith))) (cases_lt (p.taken + 1) p.named)
 
 -- an order that was refused is none that was accepted
-pub refused_not_accepted : {E : Type 0} {p q : Report} {e : Event E} {f : UnitFault} → Refused p q e f → (k : Kind) → ¬ Accepted k e
+pub refused_not_accepted : {E : Type 0} {p q : Progress} {e : Event E} {f : UnitFault} → Refused p q e f → (k : Kind) → ¬ Accepted k e
 refused_not_accepted r k a = cc r.answer_is
 
-module _ {E : Type 0} {h : List (Event E)} {p q : Report} {e : Event E} where
+module _ {E : Type 0} {h : List (Event E)} {p q : Progress} {e : Event E} where
   -- neither state nor counts change, and no order but a block was accepted
   unchanged : {f : UnitFault} → Refused p q e f → Summary h p → Summary (e ∷ h) q
   unchanged r v =
@@ -121,7 +121,7 @@ none_yet : {E : Type 0} {k : Kind} {m : ℕ} {s : List (Event E)} → ¬ Since k
 none_yet i = elim i [ ]
 
 -- the progress of a unit sums up every day that it has lived
-pub summary : {E : Type 0} {o : Ops E} {α : E} {n : ℕ} {h : List (Event E)} {p : Report} → Lived o α n h p → Summary h p
+pub summary : {E : Type 0} {o : Ops E} {α : E} {n : ℕ} {h : List (Event E)} {p : Progress} → Lived o α n h p → Summary h p
 summary (sealed s) = record {
   steering = (λ x. absurd (none_yet x.2), λ x. cc s.state_is);
   loaded = λ m c. (λ x. absurd (none_yet x.1), λ x. absurd (parked_not_loads s.state_is x.0));

@@ -1,6 +1,7 @@
 -- What a report says of the day that a unit has lived.
 use Rattle.std.specs.Prelude.{◌≡◌, ℕ, ◌+◌, List, [], ◌∷◌, Ok}
 use Rattle.unit.specs.Days.{Event, Accepted, Since, NoneOf, Count, IsSteering, Loaded, InTurn, Grantable}
+use Rattle.unit.specs.declared.progress.Progress.{Progress}
 use Rattle.unit.specs.declared.reports.Report.{Report}
 use Rattle.unit.specs.declared.states.Kind.TheVariants.{Open, Block}
 use Rattle.unit.specs.declared.states.State.{State}
@@ -28,3 +29,10 @@ pub data Tally {E : Type 0} (h : List (Event E)) : ℕ → ℕ → ℕ → Type 
 pub record Reports {E : Type 0} (h : List (Event E)) (r : Report) : Type 0 where
   pub state_is : InState h r.state
   pub tally_is : Tally h r.named r.taken r.changed
+
+-- the report tells the progress
+pub record Told (p : Progress) (r : Report) : Type 0 where
+  pub state_is : r.state ≡ p.state
+  pub named_is : r.named ≡ p.named
+  pub taken_is : r.taken ≡ p.taken
+  pub changed_is : r.changed ≡ p.changed

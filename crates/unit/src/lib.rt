@@ -5,6 +5,7 @@ mod days;
 mod faults;
 mod numbers;
 mod orders;
+mod progress;
 mod reports;
 mod sealing;
 mod states;

@@ -6,7 +6,7 @@ ghost use Rattle.unit.specs.Law.{Ordered};
 ghost use Rattle.unit.specs.Orders.{UncorrectedAt, OrderedOnce};
 
 use crate::faults::UnitFault;
-use crate::reports::Report;
+use crate::progress::Progress;
 use crate::states::{Kind, State};
 use crate::units::Sealed;
 use algebra::{Field, RootedField};
@@ -32,7 +32,7 @@ impl<F: RootedField> Sealed<F> {
             (Kind::Open, State::Steering) => Err(UnitFault::WrongState(State::Steering)),
             (Kind::Open, _) => match number {
                 1..=MOST_BLOCKS => {
-                    self.progress = Report::opened(number);
+                    self.progress = Progress::opened(number);
                     Ok(0)
                 }
                 _ => Err(UnitFault::BlockCount(number)),

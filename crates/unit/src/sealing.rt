@@ -4,7 +4,7 @@ ghost use Rattle.unit.specs.Commissioning.{HandsBack, SealedWith, SealingRefused
 ghost use Rattle.unit.specs.Orders.{IsNew};
 
 use crate::faults::UnitFault;
-use crate::reports::Report;
+use crate::progress::Progress;
 use crate::units::{Open, Rejected, Sealed};
 use algebra::{Field, RootedField};
 use code::generates;
@@ -37,7 +37,7 @@ impl<F: RootedField> Open<F> {
             field,
             alpha,
             length,
-            progress: Report::parked(),
+            progress: Progress::parked(),
         })
     }
 

@@ -2,7 +2,7 @@
 ghost use Rattle.unit.specs.Sealing.{Allowed};
 
 use crate::faults::UnitFault;
-use crate::reports::Report;
+use crate::progress::Progress;
 use algebra::{Field, RootedField};
 
 // A unit on a field, before its generator and block length are fixed.
@@ -17,7 +17,7 @@ pub struct Sealed<F: RootedField> {
     pub(crate) field: F,
     pub(crate) alpha: F::Elem,
     pub(crate) length: usize,
-    pub(crate) progress: Report,
+    pub(crate) progress: Progress,
     ghost allowed: { Allowed (F.Field.ops field) alpha length },
 }
 

@@ -31,8 +31,8 @@ returns-then-not-has_room-2 c =
 pub returns : goal.returns
 returns c =
     let w = waiting c.args.self.now in (
-      continues_line w (waiting c.hold-2.new.self) (waiting c.answer_held.new.self) c.args.piece.now c.in-Some.front.now c.in-Some.rest.now
+      continues_line w (waiting c.keep-2.new.self) (waiting c.answer_held.new.self) c.args.piece.now c.in-Some.front.now c.in-Some.rest.now
           (response c.in_ok-reply.reply) c.if-self.false c.args.self.now.line c.in-Some.ensures.1 c.in-Some.ensures.0
-          (c.if-not-has_room-2.ensures.0 refl) c.in_ok-hold-2.ensures c.in_ok-reply.ensures,
+          (c.if-not-has_room-2.ensures.0 refl) c.in_ok-keep-2.ensures c.in_ok-reply.ensures,
       shorter c.args.piece.now c.in-Some.front.now c.in-Some.rest.now c.in-Some.ensures.1,
     )

@@ -4,14 +4,14 @@ use Rattle.unit.specs.Days.{Event}
 use Rattle.unit.specs.Law.{Ordered}
 use Rattle.unit.specs.Orders.{Transition, wrong_state, block_count, opened, out_of_turn, not_corrected, taken, granted, released}
 use Rattle.unit.specs.Sealing.{Allowed}
-use Rattle.unit.specs.declared.reports.Report.{Report}
+use Rattle.unit.specs.declared.progress.Progress.{Progress}
 use Rattle.unit.specs.declared.units.Sealed.{Sealed}
 use Rattle.unit.proofs.Lawful.{by_transition}
 use Rattle.unit.proofs.units.Sealed.order.Given as given
 use Rattle.unit.proofs.units.Sealed.order.Goals as goal
 
 -- by what the order did, where field, generator and length stay
-by : (g : given.Over) {u : Sealed g.row.F.Denot g.row.F-Elem.Denot g.F.Field} {q : Report} {ok : Allowed (g.F.Field.ops u.field) u.alpha u.length} {e : Event g.row.F-Elem.Denot}
+by : (g : given.Over) {u : Sealed g.row.F.Denot g.row.F-Elem.Denot g.F.Field} {q : Progress} {ok : Allowed (g.F.Field.ops u.field) u.alpha u.length} {e : Event g.row.F-Elem.Denot}
     → Transition (g.F.Field.ops u.field) u.alpha u.length u.progress q e
     → Ordered u (record { field = u.field; alpha = u.alpha; length = u.length; progress = q; allowed = ok }) e
 by g t = by_transition g.met.F.Field.laws g.met.F.RootedField.rooted (record { field_is = refl; alpha_is = refl; length_is = refl }) t
