@@ -1,4 +1,4 @@
-// The number and the layer of each refusal of a field.
+// The number and the layer of each refusal of a field: written case by case, as their definitions are.
 ghost use Rattle.std.specs.Prelude.{◌≡◌};
 ghost use Rattle.algebra.specs.Refusals.{field_number, field_layer};
 

@@ -1,4 +1,4 @@
-// The number and the layer of each refusal of a block.
+// The number and the layer of each refusal of a block: written case by case, as their definitions are.
 ghost use Rattle.std.specs.Prelude.{◌≡◌};
 ghost use Rattle.code.specs.Refusals.{code_number, code_layer};
 

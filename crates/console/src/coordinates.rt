@@ -4,6 +4,7 @@ ghost use Rattle.console.specs.Widths.{halves_long};
 
 use std::alloc::AllocError;
 
+// A trait of its own, since `TryFrom` for numbers and pairs is not ours to write.
 pub trait Coordinates: Copy {
     ghost flat: { Self → List ℕ };
 

@@ -1,4 +1,4 @@
-// The number and the layer of each refusal of the program.
+// The number and the layer of each refusal of the program: written case by case, as their definitions are.
 ghost use Rattle.std.specs.Prelude.{◌≡◌};
 ghost use Rattle.console.specs.Refusals.{shift_number, shift_layer};
 

@@ -12,6 +12,7 @@ pub enum State {
     Steering,
 }
 
+// A plain kind, with the number and the block beside it and not inside: so the rules of the unit give an order.
 #[derive(Clone, Copy, PartialEq, Eq, Debug)]
 pub enum Kind {
     // Opens the unit for a number of blocks.
