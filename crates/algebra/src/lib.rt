@@ -63,7 +63,7 @@ pub trait Field {
         ensures inside { In (ops self.now) result };
 
     // The sign of a: 0 or 1, and of an element other than zero the opposite of its negative's.
-    // It is a number, as in the RFC that it follows.
+    // It is a number and no kind: the sign law adds up two of them.
     fn sign(&self, a: Self::Elem) -> u8
         requires { In (ops self.now) a }
         ensures { result ≡ (ops self.now).sign a };

@@ -2,8 +2,8 @@
 use crate::faults::UnitFault;
 use crate::states::Kind;
 
-// The block is a Vec that the caller allocates: this crate allocates nothing.
 // An order with its own block, and the answer once it is given.
+// The block is a `Vec` that the caller allocates: this crate allocates nothing.
 #[derive(Drop)]
 pub struct Task<E> {
     pub kind: Kind,

@@ -1,4 +1,4 @@
-// What ends the program before each value is executed.
+// What ends the program before all values are executed.
 use algebra::{FieldFault, RootedField};
 use quadratic::Unextended;
 use std::alloc::AllocError;
