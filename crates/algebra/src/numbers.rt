@@ -1,4 +1,4 @@
-// The number and the layer of each refusal of a field: written case by case, as their definitions are.
+// The number and the layer of each refusal of a field: written case by case, so that each stands beside its name as in its definition.
 ghost use Rattle.std.specs.Prelude.{◌≡◌};
 ghost use Rattle.algebra.specs.Refusals.{field_number, field_layer};
 

@@ -7,6 +7,7 @@ ghost use Rattle.code.specs.Blocks.{Elements, Sum};
 use algebra::Field;
 
 // The sum Sⱼ of the block where x is αʲ, by Horner's rule in sending order.
+// By a rule of the project this is a `for` over a plain slice, so that its symbols are elements is asked for.
 pub fn syndrome<F: Field>(field: &F, x: F::Elem, block: &[F::Elem]) -> F::Elem
     requires point { In (F.Field.ops field.now) x }
     requires elements { Elements (F.Field.ops field.now) block.now }

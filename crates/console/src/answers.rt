@@ -59,8 +59,10 @@ fn answer_prime(p: u32, input: NumberedLine) -> Answer<Stage>
 
 // What comes of a line.
 fn answer_read(heap: Global, stage: Stage, input: NumberedLine) -> Result<Answer<Stage>, AllocError>
-    ensures { IfOk result (λ a. Handled (position stage) input.number (meant input.line) (position a.left) (response a.reply)) }
+    ensures { IfOk result (λ a.
+        Handled (position stage) input.number (meant input.line) (position a.left) (response a.reply)) }
 {
+    // Closures, since the check fails on the constructors and `Stage::from` themselves.
     match stage {
         Stage::Start => Ok(answer_start(input)),
         Stage::Prime(p) => Ok(answer_prime(p, input)),

@@ -6,7 +6,7 @@ use crate::stages::Stage;
 #[derive(Drop)]
 pub struct Console {
     pub(crate) stage: Stage,
-    // A flag beside the stage, which stays as it was when the session ended: no value would have to be made up for it.
+    // A flag: a session that is over still stands where its last line left it, so an Option of the stage would lose that.
     pub(crate) ended: bool,
     pub(crate) lines: u64,
     pub(crate) held: Vec<u8>,

@@ -2,7 +2,7 @@
 use algebra::FieldFault;
 use unit::UnitFault;
 
-// Made by naming the variant: a `From` would say less, as two faults from below are field faults at heart.
+// Made by naming the variant: each is wrapped where a `match` also hands back what is left, and no `?` would use a `From`.
 #[derive(Clone, Copy, PartialEq, Eq, Debug)]
 pub enum ShiftFault {
     // A line that cannot be read, with its number, counted from 1.

@@ -134,6 +134,7 @@ fn ends_session(reply: &Result<Reply, ShiftFault>) -> bool
         Ok(_) => false,
         Err(fault) => {
             let number = fault.number();
+            // By number, as the definition `ends` has it.
             number <= 5 || number == 14
         }
     }

@@ -42,6 +42,7 @@ where
     let NumberedLine { number, line } = input;
     let Line::Step(numbers) = line else {
         let input = NumberedLine { number, line };
+        // A closure, since the check fails on the constructor itself.
         return Ok(answer_unit(heap, unit, input)?.map(|left| Stepped::Same(left)));
     };
     let Commission::Open(open) = unit else {
@@ -76,7 +77,8 @@ where
     }
 }
 
-// No generic function makes the stage: a bound cannot yet speak of a closure, or a conversion, of a unit on the extension of its parameter.
+// A `From` for each height, as each names its own two stages. Made by functions passed in, they would be one:
+// it was tried, and a bound cannot yet speak of a function of a unit on the extension of its parameter.
 impl From<Stepped<PrimeField>> for Stage {
     ghost from_gives = { λ left stage.
         position stage ≡ placed 0 (modular (ground left).modulus) (place left) };

@@ -18,7 +18,7 @@ pub struct Decoder<'a, F: Field> {
 }
 
 impl<'a, F: Field> Decoder<'a, F> {
-    // The decoder of a block, whose sums it takes.
+    // The decoder of a block, whose sums it takes. A block is a plain slice, by a rule of the project, so its elements are asked for.
     pub fn new(code: &'a Code<'a, F>, block: &[F::Elem]) -> Decoder<'a, F>
         requires { Elements (F.Field.ops code.now.field.now) block.now }
         ensures code { result.code.now ≡ code.now }

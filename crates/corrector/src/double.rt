@@ -32,6 +32,7 @@ fn solve_quadratic<F: RootedField>(
 {
     let twice = field.add(v, v);
     let discriminant = subtract(field, field.mul(u, u), field.add(twice, twice));
+    // By a rule of the project what is not found is refused by `let .. else`: a root here, a place below.
     let Some(d) = field.root(discriminant) else {
         return Err(CodeFault::NoCodeWord);
     };
@@ -75,7 +76,7 @@ impl<F: RootedField> Decoder<'_, F> {
         )
     }
 
-    // Corrects two wrong symbols.
+    // Corrects two wrong symbols. The block is lent for writing, so no type can keep what is asked of it here.
     pub fn correct_two(&self, block: &mut [F::Elem]) -> Result<usize, CodeFault>
         requires long { length block.old ≡ self.now.code.now.length }
         requires elements { Elements (F.Field.ops self.now.code.now.field.now) block.old }

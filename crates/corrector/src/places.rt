@@ -21,7 +21,7 @@ pub fn find_place<F: Field>(code: &Code<'_, F>, x: F::Elem) -> Option<usize>
     let n = code.length;
     let mut k = 0;
     let mut locator = field.one();
-    // The power of alpha runs along with the place, which leaves the loop by `break`.
+    // By a rule of the project a search is a loop that yields its answer by `break`.
     loop {
         if k == n {
             break None;

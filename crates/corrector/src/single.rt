@@ -30,6 +30,7 @@ impl<F: Field> Decoder<'_, F> {
     }
 
     // Corrects one wrong symbol: at the place k it makes each sum αᵏ times the one before.
+    // The block is lent for writing, so no type can keep what is asked of it here.
     pub fn correct_one(&self, block: &mut [F::Elem]) -> Result<usize, CodeFault>
         requires long { length block.old ≡ self.now.code.now.length }
         requires elements { Elements (F.Field.ops self.now.code.now.field.now) block.old }
@@ -46,6 +47,7 @@ impl<F: Field> Decoder<'_, F> {
         if field.equal(s1, field.zero()) {
             return Err(CodeFault::NoCodeWord);
         }
+        // By a rule of the project what is not found is refused by `let .. else`.
         let Some(x) = self.common_ratio() else {
             return Err(CodeFault::NoCodeWord);
         };

@@ -1,5 +1,6 @@
 // The four sums of a block.
 
+// Named fields and no array, as `Points` of `code`.
 #[derive(Clone, Copy)]
 pub struct Syndromes<E> {
     pub s1: E,

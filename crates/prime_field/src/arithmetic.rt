@@ -2,7 +2,7 @@
 ghost use Rattle.std.specs.Prelude.{◌≡◌, ◌+◌, ◌-◌, ◌*◌, ◌%◌, ◌^◌, ◌<◌};
 ghost use Rattle.prime_field.specs.Modular.{power};
 
-// What numbers are taken modulo.
+// What numbers are taken modulo. The numbers stay plain, and are asked to be below it where that matters.
 #[derive(Clone, Copy)]
 pub struct Modulus {
     pub(crate) value: u32,

@@ -45,6 +45,7 @@ impl Field for PrimeField {
     }
 
     fn sign(&self, a: u32) -> u8 {
+        // A remainder by 2 fits.
         (a % 2) as u8
     }
 }

@@ -57,7 +57,9 @@ impl<F: RootedField> Quad<F> {
         requires high { a.1 ≢ (F.Field.ops self.now.base).zero }
         requires inside { In (F.Field.ops self.now.base) t }
         requires sum { HalfSum (F.Field.ops self.now.base) self.now.beta a t }
-        ensures { MatchOption result (Square (F.Field.ops self.now.base) t → ⊥) (RootOf (⟦<Quad<F> as Field>⟧.ops self.now) a) }
+        ensures { MatchOption result
+            (Square (F.Field.ops self.now.base) t → ⊥)
+            (RootOf (⟦<Quad<F> as Field>⟧.ops self.now) a) }
     {
         let f = &self.base;
         let x0 = f.root(t)?;

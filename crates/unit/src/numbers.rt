@@ -1,4 +1,5 @@
-// The numbers of states and refusals, and the layers of refusals: written case by case, as their definitions are.
+// The numbers of states and refusals, and the layers of refusals: written case by case, so that each stands
+// beside its name as in its definition.
 ghost use Rattle.std.specs.Prelude.{◌≡◌};
 ghost use Rattle.unit.specs.Refusals.{unit_number, unit_layer};
 ghost use Rattle.unit.specs.States.{state_number};

@@ -18,7 +18,7 @@ const MOST_BLOCKS: u32 = 4096;
 impl<F: RootedField> Sealed<F> {
     // Gives the unit an order. An opening's number is that of the blocks it names, a block's is its own; others have none.
     // The block is lent: only a block order looks at it, and only one that is taken changes it.
-    // An order that is not refused answers 0, and a block the number of symbols changed: one type serves all four kinds.
+    // What is not refused answers 0, and a block the number of symbols changed, as the definitions of their outcomes say.
     pub fn order(
         &mut self,
         kind: Kind,

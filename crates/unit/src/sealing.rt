@@ -23,7 +23,9 @@ impl<F: RootedField> Open<F> {
 
     // Fixes the generator and the block length. A refusal carries the open unit, unchanged.
     pub fn seal(self, alpha: F::Elem, length: usize) -> Result<Sealed<F>, Rejected<F>>
-        ensures answer { MatchResult result (SealedWith self.field alpha length) (SealingRefused (F.Field.ops self.field) self alpha length) }
+        ensures answer { MatchResult result
+            (SealedWith self.field alpha length)
+            (SealingRefused (F.Field.ops self.field) self alpha length) }
         ensures parked { IfOk result (λ u. IsNew u.progress) }
     {
         if !(SHORTEST_BLOCK..=LONGEST_BLOCK).contains(&length) {

@@ -21,7 +21,7 @@ pub struct Sealed<F: RootedField> {
     ghost allowed: { Allowed (F.Field.ops field) alpha length },
 }
 
-// A refusal, with the open unit that it hands back.
+// A refusal, with the open unit that it hands back. `Unextended` of `quadratic` is like it, and names a field instead.
 #[derive(Drop)]
 pub struct Rejected<F: RootedField> {
     pub fault: UnitFault,

@@ -22,7 +22,9 @@ impl<F: RootedField> Sealed<F> {
 
     // Writes the checks of a block by the unit's generator and length. The unit stays as it is.
     pub fn encode(&self, block: &mut [F::Elem]) -> Result<(), CodeFault>
-        ensures { MatchResult result (λ _. WrittenBy self.now block.old block.new) (UnwrittenBy self.now block.old block.new) }
+        ensures { MatchResult result
+            (λ _. WrittenBy self.now block.old block.new)
+            (UnwrittenBy self.now block.old block.new) }
     {
         writer::encode(&self.code(), block)
     }

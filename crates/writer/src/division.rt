@@ -8,7 +8,7 @@ ghost use Rattle.writer.specs.Division.{Inside, Root, Steps, Remains};
 use algebra::Field;
 use code::{Code, Points};
 
-// c3·x³ + c2·x² + c1·x + c0
+// c3·x³ + c2·x² + c1·x + c0. Named fields and no array, as `Points` of `code`.
 #[derive(Clone, Copy)]
 pub struct Cubic<E> {
     pub c3: E,

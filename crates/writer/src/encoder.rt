@@ -29,6 +29,7 @@ fn write_checks<F: Field>(code: &Code<'_, F>, block: &mut [F::Elem])
 }
 
 // Writes the checks of a block after its data symbols.
+// A code may be shorter than a block with data and checks, since the corrector works at any length: so the length is asked for.
 pub fn encode<F: Field>(code: &Code<'_, F>, block: &mut [F::Elem]) -> Result<(), CodeFault>
     requires { 5 ≤ code.now.length }
     ensures { let o = F.Field.ops code.now.field.now in

@@ -30,6 +30,15 @@ module _ (p : ℕ) (P : Prime p) (odd : p % 2 ≡ 1) where
   two_not_zero : 2 % p ≡ 0 → ⊥
   two_not_zero e = let k : 2 % p ≡ 2 = mod-eq_of_lt two in omega arith
 
+  add_assoc : (a b c : ℕ) → ((a + b) % p + c) % p ≡ (a + (b + c) % p) % p
+  add_assoc a b c = simp (mod-add-mod, add-mod-mod, N.add_assoc)
+
+  mul_assoc : (a b c : ℕ) → ((a * b) % p * c) % p ≡ (a * ((b * c) % p)) % p
+  mul_assoc a b c = simp (mul-mod_first, mul-mod_second, N.mul_assoc)
+
+  mul_add : (a b c : ℕ) → (a * ((b + c) % p)) % p ≡ ((a * b) % p + (a * c) % p) % p
+  mul_add a b c = simp (mul-mod_second, N.mul-add, mod-add-mod, add-mod-mod)
+
   arithmetic : Arithmetic (modular p)
   arithmetic =
       record {
@@ -42,10 +51,10 @@ module _ (p : ℕ) (P : Prime p) (odd : p % 2 ≡ 1) where
         same_is = λ a b _ _ e. eqb-true a b e;
         is_same = λ a _. eq-eqb a a refl;
         add_comm = λ a b _ _. mod_eq p (N.add_comm a b);
-        add_assoc = λ a b c _ _ _. simp (mod-add-mod, add-mod-mod, N.add_assoc);
+        add_assoc = λ a b c _ _ _. add_assoc a b c;
         mul_comm = λ a b _ _. mod_eq p (N.mul_comm a b);
-        mul_assoc = λ a b c _ _ _. simp (mul-mod_first, mul-mod_second, N.mul_assoc);
-        mul_add = λ a b c _ _ _. simp (mul-mod_second, N.mul-add, mod-add-mod, add-mod-mod);
+        mul_assoc = λ a b c _ _ _. mul_assoc a b c;
+        mul_add = λ a b c _ _ _. mul_add a b c;
         add_zero = λ a h. mod_eq p (N.add-zero a) ∙ mod-eq_of_lt (ltb-true a p h);
         mul_one = λ a h. mod_eq p (N.mul-one a) ∙ mod-eq_of_lt (ltb-true a p h);
         add_neg = λ a h. add_neg a (ltb-true a p h);

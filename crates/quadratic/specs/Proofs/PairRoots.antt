@@ -59,6 +59,27 @@ module _ {E : Type 0} {o : Ops E} (laws : Laws o) (β : E) (up : Nonsquare o β)
         ∙ w.even;
   })
 
+  -- and one of the half sums has a root
+  pub some_half_sum : (a : E × E) (d : E) → In P a → In o d → d · d ≡ norm o β a
+      → (Square o ((a.0 ⊹ d) · half o) → ⊥) → (Square o (minus o a.0 d · half o) → ⊥) → ⊥
+  some_half_sum a d ha hd root n k =
+      go (half_sum_squares laws β up a.0 a.1 ((a.0 ⊹ d) · half o) h0 h1 (half_sum_in l a.0 d h0 hd) (half_sum l a.0 d h0 hd β a.1 up.inside h1 root))
+    where
+      h0 : In o a.0
+      h0 = low_in laws β up a ha
+
+      h1 : In o a.1
+      h1 = high_in laws β up a ha
+
+      go : Square o ((a.0 ⊹ d) · half o) ⊎ Square o (minus o a.0 ((a.0 ⊹ d) · half o)) → ⊥
+      go (inl s) = n s
+      go (inr s) = k (subst (Square o) (half_sums l a.0 d h0 hd) s)
+
+  -- what is answered by the last half sum that can have a root
+  pub answers_by_half_sum : (a : E × E) (t : E) (r : Option (E × E)) → MatchOption r (Square o t → ⊥) (RootOf P a) → ((Square o t → ⊥) → ⊥) → AnswersRoot P a r
+  answers_by_half_sum a t None n some = absurd (some n)
+  answers_by_half_sum a t (Some x) w some = w
+
   -- the two half sums, s and t, of a and a root d of its norm
   module _ (a : E × E) (d : E) (ha : In P a) (root : RootOf o (norm o β a) d) where
     hd : In o d
@@ -80,12 +101,9 @@ module _ {E : Type 0} {o : Ops E} (laws : Laws o) (β : E) (up : Nonsquare o β)
     -- s or t has a root, so where s has none, what t answers is the answer
     pub answered_by : (s t : E) → s ≡ (a.0 ⊹ d) · half o → t ≡ minus o a.0 d · half o → (Square o s → ⊥)
         → (r : Option (E × E)) → MatchOption r (Square o t → ⊥) (RootOf P a) → AnswersRoot P a r
-    answered_by s t e f n None k = absurd (go (half_sum_squares laws β up a.0 a.1 s h0 h1 (subst (In o) (sym e) (half_sum_in l a.0 d h0 hd)) (sum_is s e)))
-      where
-        go : Square o s ⊎ Square o (minus o a.0 s) → ⊥
-        go (inl q) = n q
-        go (inr q) = k (subst (Square o) (ap (minus o a.0) e ∙ half_sums l a.0 d h0 hd ∙ sym f) q)
-    answered_by s t e f n (Some x) w = w
+    answered_by s t e f n r k =
+        answers_by_half_sum a t r k
+        (λ m. some_half_sum a d ha hd root.squares (λ q. n (subst (Square o) (sym e) q)) (λ q. m (subst (Square o) (sym f) q)))
 
   -- a pair whose norm has no root
   pub no_root_by_norm : (a : E × E) (n : E) → n ≡ norm o β a → (Square o n → ⊥) → Square P a → ⊥
