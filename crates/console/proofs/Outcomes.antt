@@ -21,34 +21,13 @@ use Rattle.console.specs.declared.faults.ShiftFault.TheVariants.{Unreadable}
 use Rattle.console.specs.declared.replies.Answer.{Answer}
 use Rattle.console.specs.declared.stages.Stage.{Stage}
 
--- a line that is not in order leaves the unit, or the stage, as it was
+-- a line that is not in order leaves the unit as it was
 pub unit_out_of_order : {F E : Type 0} {m : Ghosts F E} (o : Ops E) (f : E → List ℕ) (x : Content) (k : ℕ) (u : Commission F E m) (a : Answer (Commission F E m))
     → a.left ≡ u → a.reply ≡ Err (Unreadable k) → (UnitInOrder f (phase u) x → ⊥)
     → UnitHandled o f (phase u) k x (phase a.left) (response a.reply) × (field_of a.left ≡ field_of u)
 unit_out_of_order o f x k u a e r h = (inr (h, ap phase e, ap response r), ap field_of e)
 
-pub out_of_order : (x : Content) (k : ℕ) (s : Stage) (a : Answer Stage)
-    → a.left ≡ s → a.reply ≡ Err (Unreadable k) → (InOrder (position s) x → ⊥)
-    → Handled (position s) k x (position a.left) (response a.reply)
-out_of_order x k s a e r h = inr (h, ap position e, ap response r)
-
 -- the lines that are not the one in order
-pub only_prime : (l : Line) → ((p : ℕ) → l ≡ Prime p → ⊥) → InOrder begun (meant l) → ⊥
-only_prime (Prime p) other o = other p refl
-only_prime (Nonresidue r) other o = elim o [ ]
-only_prime (Step b) other o = elim o [ ]
-only_prime (Alpha a) other o = elim o [ ]
-only_prime (Length n) other o = elim o [ ]
-only_prime (Find x) other o = elim o [ ]
-
-pub only_nonresidue : (p : ℕ) (l : Line) → ((r : ℕ) → l ≡ Nonresidue r → ⊥) → InOrder (prime_given p) (meant l) → ⊥
-only_nonresidue p (Prime q) other o = elim o [ ]
-only_nonresidue p (Nonresidue r) other o = other r refl
-only_nonresidue p (Step b) other o = elim o [ ]
-only_nonresidue p (Alpha a) other o = elim o [ ]
-only_nonresidue p (Length n) other o = elim o [ ]
-only_nonresidue p (Find x) other o = elim o [ ]
-
 module _ {E : Type 0} (f : E → List ℕ) where
   pub only_alpha : (l : Line) → ((a : Vec ℕ Global) → l ≡ Alpha a → ⊥) → UnitInOrder f unsealed (meant l) → ⊥
   only_alpha (Prime q) other o = elim o [ ]

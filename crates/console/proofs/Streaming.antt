@@ -3,9 +3,9 @@ use Rattle.std.proofs.Common.{◌≡◌, ℕ, zero, suc, ◌<◌, ◌≤◌, Boo
 use Rattle.std.proofs.lemmas.List.{append-nil, length-append, flat_map_more}
 use Rattle.std.specs.Str.Iter.{LacksByte}
 use Rattle.std.specs.List.{flat_map}
-use Rattle.console.specs.Consoles.{WritesOne, WritesLast, Holds, AnswersHeld, RefusesHeld}
+use Rattle.console.specs.Consoles.{WritesOne, Holds, AnswersHeld, RefusesHeld}
 use Rattle.console.specs.Conversation.{Response, refused, shown, ends, Answers}
-use Rattle.console.specs.Sessions.{Session, over, last, line, end, too_long, longest, line_after, Held, Waiting, initial, Responds, Continues, Output}
+use Rattle.console.specs.Sessions.{Session, over, last, line, end, too_long, longest, line_after, Held, Waiting, initial, Responds, Continues}
 use Rattle.console.specs.declared.faults.ShiftFault.TheVariants.{Unreadable}
 
 -- a console whose session goes on responds as the session does
@@ -91,24 +91,9 @@ over_ended w e = rests w [] [] e refl
 abbrev pub Reads : List ℕ → List ℕ → Waiting → List ℕ → Type 0
 Reads input out w rest = (rs : List Response) × (out ≡ flat_map shown rs) × Continues initial input rs w rest
 
-pub reads_none : (input : List ℕ) (out : List ℕ) (w : Waiting) → out ≡ [] → w ≡ initial → Reads input out w input
-reads_none input out w e same = ([], e, λ more qs h. subst (λ v. Responds v (input ++ more) qs) same h)
-
 pub reads_one : (input out out' : List ℕ) (w w' : Waiting) (rest left : List ℕ) → Reads input out w rest → WritesOne w rest w' left out out' → Reads input out' w' left
 reads_one input out out' w w' rest left (rs, e, f) (r, (g, _), q) = (
   rs ++ r ∷ [],
   q ∙ ap (λ v. v ++ shown r) e ∙ flat_map_more shown [] rs r,
   λ more qs h. subst (Responds initial (input ++ more)) (sym (append_assoc rs (r ∷ []) qs)) (f more (r ∷ qs) (g more qs h)),
 )
-
--- the last piece is held, and the input is over
-pub reads_all : (input out out₁ out' : List ℕ) (w w' : Waiting) (rest : List ℕ) → Reads input out w rest → Continues w rest [] w' [] × (out₁ ≡ out) → WritesLast w' out₁ out' → Output input out'
-reads_all input out out₁ out' w w' rest (rs, e, f) (g, kept) (qs, h, q) = (
-  rs ++ qs,
-  subst (λ v. Session initial.position 0 v (rs ++ qs)) (append-nil input) (f [] qs (g [] qs h)),
-  q ∙ ap (λ v. v ++ flat_map shown qs) (kept ∙ e) ∙ joined_append rs qs,
-)
-  where
-    joined_append : (xs ys : List Response) → flat_map shown xs ++ flat_map shown ys ≡ flat_map shown (xs ++ ys)
-    joined_append [] ys = refl
-    joined_append (x ∷ xs) ys = append_assoc (shown x) (flat_map shown xs) (flat_map shown ys) ∙ ap (λ v. shown x ++ v) (joined_append xs ys)

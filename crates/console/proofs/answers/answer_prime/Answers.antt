@@ -4,14 +4,7 @@ use Rattle.prime_field.specs.Modular.{modular}
 use Rattle.console.specs.Conversation.{prime_given, unit_on, unsealed, accepted, refused, Outcome, field_made, field_refused}
 use Rattle.console.specs.Handling.{Handled}
 use Rattle.console.specs.declared.faults.ShiftFault.TheVariants.{Field}
-use Rattle.console.specs.declared.stages.Stage.TheVariants.{Prime}
-use Rattle.console.proofs.Outcomes.{out_of_order, only_nonresidue}
 use Rattle.console.proofs.answers.answer_prime.Goals as goal
-
-pub returns-in_default : goal.returns-in_default
-returns-in_default c =
-    out_of_order (meant c.args.input.line) c.args.input.number (Prime c.args.p) c.unreadable.result c.unreadable.ensures.left c.unreadable.ensures.reply
-    (only_nonresidue c.args.p c.args.input.line c.in_default.not-Nonresidue)
 
 pub returns-in-Ok : goal.returns-in-Ok
 returns-in-Ok c =

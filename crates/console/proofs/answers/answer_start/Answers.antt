@@ -4,14 +4,7 @@ use Rattle.lines.specs.Lines.{meant}
 use Rattle.console.specs.Conversation.{begun, prime_given, accepted, refused, prime_listed, prime_unlisted}
 use Rattle.console.specs.Handling.{Handled}
 use Rattle.console.specs.declared.faults.ShiftFault.TheVariants.{Field}
-use Rattle.console.specs.declared.stages.Stage.TheVariants.{Start}
-use Rattle.console.proofs.Outcomes.{out_of_order, only_prime}
 use Rattle.console.proofs.answers.answer_start.Goals as goal
-
-pub returns-in_default : goal.returns-in_default
-returns-in_default c =
-    out_of_order (meant c.args.input.line) c.args.input.number Start c.unreadable.result c.unreadable.ensures.left c.unreadable.ensures.reply
-    (only_prime c.args.input.line c.in_default.not-Prime)
 
 pub returns-then-not-is_listed : goal.returns-then-not-is_listed
 returns-then-not-is_listed c =
