@@ -62,12 +62,12 @@ fn answer_read(heap: Global, stage: Stage, input: NumberedLine) -> Result<Answer
     ensures { IfOk result (λ a.
         Handled (position stage) input.number (meant input.line) (position a.left) (response a.reply)) }
 {
-    // Closures, since the check fails on the constructors and `Stage::from` themselves.
+    // A closure in the last arm: it was tried, and the check cannot yet take a constructor of such a type as a function.
     match stage {
         Stage::Start => Ok(answer_start(input)),
         Stage::Prime(p) => Ok(answer_prime(p, input)),
-        Stage::Single(unit) => Ok(answer_steps(heap, unit, input)?.map(|left| Stage::from(left))),
-        Stage::Double(unit) => Ok(answer_steps(heap, unit, input)?.map(|left| Stage::from(left))),
+        Stage::Single(unit) => Ok(answer_steps(heap, unit, input)?.map(Stage::from)),
+        Stage::Double(unit) => Ok(answer_steps(heap, unit, input)?.map(Stage::from)),
         Stage::Quadruple(unit) => {
             Ok(answer_unit(heap, unit, input)?.map(|left| Stage::Quadruple(left)))
         }

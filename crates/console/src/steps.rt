@@ -42,7 +42,7 @@ where
     let NumberedLine { number, line } = input;
     let Line::Step(numbers) = line else {
         let input = NumberedLine { number, line };
-        // A closure, since the check fails on the constructor itself.
+        // A closure, as in `answer_read`: the constructor itself was tried.
         return Ok(answer_unit(heap, unit, input)?.map(|left| Stepped::Same(left)));
     };
     let Commission::Open(open) = unit else {
