@@ -1,6 +1,6 @@
 use Rattle.std.proofs.Common.{◌≡◌, [], length, get_or, vec_len, Some, refl, sym, arith}
 use Rattle.std.specs.Vec.{with_items}
-use Rattle.std.proofs.lemmas.List.{with_items_is, take_all}
+use Rattle.std.proofs.lemmas.List.{with_items_is}
 use Rattle.unit.specs.Days.{Event, event}
 use Rattle.unit.specs.Tasks.{Came, none}
 use Rattle.unit.specs.declared.tasks.Task.{Task}
@@ -24,6 +24,3 @@ loop-task-preserved g c =
     let e : Event g.row.F-Elem.Denot = event t.kind t.number c.as_mut_slice.result.now after c.order.result in
     let came : Came t x e = record { kind_is = (refl, refl); number_is = (refl, refl); offered_is = c.as_mut_slice.ensures.value; left_is = sym (with_items_is t.block after long); answer_is = refl } in
     carried_next {e = e} c.args.tasks.now us i c.task-item.result (omega arith) (omega arith) c.loop-task.invariant.1 c.loop-task.invariant.0 c.order.ensures came
-
-pub returns : goal.returns
-returns g c = rw (← take_all c.loop-task.task-index c.args.tasks.now c.loop-task-test.false, ← take_all c.loop-task.task-index c.loop-task.tasks (omega arith)) c.loop-task.invariant.0
