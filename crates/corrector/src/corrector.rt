@@ -22,9 +22,10 @@ pub fn correct<F: RootedField>(
         return Ok(0);
     }
     let field = code.field;
-    if field.equal(decoder.determinant(), field.zero()) {
+    let determinant = decoder.determinant();
+    if field.equal(determinant, field.zero()) {
         decoder.correct_one(block)
     } else {
-        decoder.correct_two(block)
+        decoder.correct_two(block, determinant)
     }
 }

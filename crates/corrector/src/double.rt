@@ -46,7 +46,9 @@ fn solve_quadratic<F: RootedField>(
 
 impl<F: RootedField> Decoder<'_, F> {
     // The locators of two wrong symbols, by their sum and their product.
-    fn locators(&self) -> Result<Locators<F::Elem>, CodeFault>
+    fn locators(&self, determinant: F::Elem) -> Result<Locators<F::Elem>, CodeFault>
+        requires value { determinant ≡ det (F.Field.ops self.now.code.now.field.now) self.now.sums }
+        requires inside { In (F.Field.ops self.now.code.now.field.now) determinant }
         ensures { let o = F.Field.ops self.now.code.now.field.now in
             let u = locator_sum o self.now.sums in
             let v = locator_product o self.now.sums in
@@ -54,7 +56,7 @@ impl<F: RootedField> Decoder<'_, F> {
     {
         let field = self.code.field;
         let Syndromes { s1, s2, s3, s4 } = self.sums;
-        let inverse = field.inv(self.determinant());
+        let inverse = field.inv(determinant);
         let u = field.mul(cross_difference(field, s1, s2, s3, s4), inverse);
         let v = field.mul(cross_difference(field, s2, s3, s3, s4), inverse);
         solve_quadratic(field, u, v)
@@ -77,13 +79,18 @@ impl<F: RootedField> Decoder<'_, F> {
     }
 
     // Corrects two wrong symbols. The block is lent for writing, so no type can keep what is asked of it here.
-    pub fn correct_two(&self, block: &mut [F::Elem]) -> Result<usize, CodeFault>
+    pub fn correct_two(
+        &self,
+        block: &mut [F::Elem],
+        determinant: F::Elem,
+    ) -> Result<usize, CodeFault>
         requires long { length block.old ≡ self.now.code.now.length }
         requires elements { Elements (F.Field.ops self.now.code.now.field.now) block.old }
         requires sums { let o = F.Field.ops self.now.code.now.field.now in
             SumsOf o self.now.code.now.alpha block.old self.now.sums }
-        requires nonzero { let o = F.Field.ops self.now.code.now.field.now in
-            det o self.now.sums ≢ o.zero }
+        requires value { determinant ≡ det (F.Field.ops self.now.code.now.field.now) self.now.sums }
+        requires inside { In (F.Field.ops self.now.code.now.field.now) determinant }
+        requires nonzero { determinant ≢ (F.Field.ops self.now.code.now.field.now).zero }
         ensures { let o = F.Field.ops self.now.code.now.field.now in
             let α = self.now.code.now.alpha in
             MatchResult result
@@ -91,7 +98,7 @@ impl<F: RootedField> Decoder<'_, F> {
             (NotTwo o α self.now.sums block.old block.new) }
     {
         let field = self.code.field;
-        let Locators { x, y } = self.locators()?;
+        let Locators { x, y } = self.locators(determinant)?;
         if field.equal(x, y) {
             return Err(CodeFault::NoCodeWord);
         }

@@ -36,7 +36,7 @@ returns-then-equal g c =
     let o = g.F.Field.ops c.args.code.now.field.now in
     let e = c.new-decoder.ensures.code in
     let nonzero : AllZero o c.new-decoder.result.sums → ⊥ = λ z. cc (c.if-all_zero.ensures.1 (rw e z)) in
-    let determinant = rw e at c.determinant.ensures.value in
+    let determinant = rw e at c.determinant-determinant.ensures.value in
     after_one r nonzero (sym determinant ∙ c.if-equal.ensures.tells.0 refl ∙ c.zero.ensures.value) _ _ (rw e at c.correct_one.ensures)
 
 pub returns-else-equal : goal.returns-else-equal
@@ -46,6 +46,6 @@ returns-else-equal g c =
     let e = c.new-decoder.ensures.code in
     let s = c.new-decoder.result.sums in
     let nonzero : AllZero o s → ⊥ = λ z. cc (c.if-all_zero.ensures.1 (rw e z)) in
-    let determinant = rw e at c.determinant.ensures.value in
+    let determinant = rw e at c.determinant-determinant.ensures.value in
     let regular : det o s ≡ o.zero → ⊥ = λ z. cc (c.if-equal.ensures.tells.1 (determinant ∙ z ∙ sym c.zero.ensures.value)) in
     after_two r nonzero regular _ _ (rw e at c.correct_two.ensures)

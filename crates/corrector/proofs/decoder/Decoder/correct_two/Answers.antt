@@ -1,5 +1,5 @@
 -- Each refusal rules out two wrong symbols, and what is left is a code word.
-use Rattle.std.proofs.Common.{refl}
+use Rattle.std.proofs.Common.{◌∙◌, refl}
 use Rattle.std.proofs.lemmas.Result.{err_from_is_err_and}
 use Rattle.corrector.proofs.Amendments.{amended_in}
 use Rattle.corrector.proofs.Received.{Received, of_block}
@@ -52,5 +52,5 @@ pub returns : goal.returns
 returns g c =
     let r = given g (goal.at.returns g c).Start in
     rw (c.amend-2.ensures, c.amend.ensures, c.error_magnitude.ensures.value, c.error_magnitude-2.ensures.value)
-    (two_corrects r _ _ c.in_ok-x.ensures c.requires.nonzero (λ q. cc (c.if-equal.ensures.tells.1 q))
+    (two_corrects r _ _ c.in_ok-x.ensures (λ z. c.requires.nonzero (c.requires.value ∙ z)) (λ q. cc (c.if-equal.ensures.tells.1 q))
     c.in-Some.i c.in-Some-find_place.k c.in-Some.ensures c.in-Some-find_place.ensures)
