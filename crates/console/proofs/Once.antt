@@ -120,9 +120,9 @@ outcome_once l (prime_listed h) (prime_listed k) = (refl, refl)
 outcome_once l (prime_listed h) (prime_unlisted k) = absurd (k h)
 outcome_once l (prime_unlisted h) (prime_listed k) = absurd (h k)
 outcome_once l (prime_unlisted h) (prime_unlisted k) = (refl, refl)
-outcome_once l (field_made h) (field_made k) = (refl, refl)
-outcome_once l (field_made {p = p} {r = r} h) (field_refused e k) = absurd ((unmade_once p r l e k).1 h)
-outcome_once l (field_refused {p = p} {r = r} e h) (field_made k) = absurd ((unmade_once p r l e h).1 k)
+outcome_once l (field_made w h) (field_made v k) = (refl, refl)
+outcome_once l (field_made {p = p} {r = r} w h) (field_refused e k) = absurd ((unmade_once p r l e k).1 h)
+outcome_once l (field_refused {p = p} {r = r} e h) (field_made w k) = absurd ((unmade_once p r l e h).1 k)
 outcome_once l (field_refused {p = p} {r = r} e h) (field_refused f k) =
     (refl, ap (λ v. refused (Field v)) ((unmade_once p r l e h).0 ∙ sym (unmade_once p r l f k).0))
 outcome_once l (stepped {n = n} {o = o} β b e h) (stepped β' b' e' k) = (ap (λ v. unit_on (suc n) (pairs o v) unsealed) (coordinates_once n β β' (sym e ∙ e')), refl)
@@ -140,7 +140,7 @@ outcome_once l (conversation.Outcome.unit_line {n = n} {o = o} h) (conversation.
 outcome_in_order : {s : Position} {x : Content} {t : Position} {r : Response} → Outcome s x t r → InOrder s x
 outcome_in_order (prime_listed h) = prime_first
 outcome_in_order (prime_unlisted h) = prime_first
-outcome_in_order (field_made h) = then_nonresidue
+outcome_in_order (field_made w h) = then_nonresidue
 outcome_in_order (field_refused e h) = then_nonresidue
 outcome_in_order (stepped β b e h) = then_step β b e
 outcome_in_order (step_refused β b e h) = then_step β b e
@@ -149,7 +149,7 @@ outcome_in_order (conversation.Outcome.unit_line {n = n} {o = o} h) = conversati
 fit_after : {s : Position} {x : Content} {t : Position} {r : Response} → Fit s → Outcome s x t r → Fit t
 fit_after l (prime_listed h) = h
 fit_after l (prime_unlisted h) = tt
-fit_after l (field_made {p = p} h) = modular_laws p (listed_prime p l) (listed_odd p l)
+fit_after l (field_made {p = p} w h) = modular_laws p (listed_prime p w) (listed_odd p w)
 fit_after l (field_refused e h) = l
 fit_after l (stepped {o = o} β b e h) = pair_laws l β h
 fit_after l (step_refused β b e h) = l

@@ -79,7 +79,7 @@ pub data InOrder : Position → Content → Type 0 where
 pub data Outcome : Position → Content → Position → Response → Type 0 where
   prime_listed : {p : ℕ} → Listed p → Outcome begun (prime p) (prime_given p) (accepted (codes "prime"))
   prime_unlisted : {p : ℕ} → (Listed p → ⊥) → Outcome begun (prime p) begun (refused (Field UnlistedModulus))
-  field_made : {p r : ℕ} → Nonresidue p r
+  field_made : {p r : ℕ} → Listed p → Nonresidue p r
       → Outcome (prime_given p) (nonresidue r) (unit_on 0 (modular p) unsealed) (accepted (codes "nonresidue"))
   field_refused : {p r : ℕ} (e : _) → RefusesMaking p r e
       → Outcome (prime_given p) (nonresidue r) (prime_given p) (refused (Field e))

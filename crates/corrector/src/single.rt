@@ -20,9 +20,7 @@ impl<F: Field> Decoder<'_, F> {
         let field = self.code.field;
         let Syndromes { s1, s2, s3, s4 } = self.sums;
         let x = divide(field, s2, s1);
-        let third = field.mul(x, s2);
-        let fourth = field.mul(x, s3);
-        if field.equal(s3, third) && field.equal(s4, fourth) {
+        if field.equal(s3, field.mul(x, s2)) && field.equal(s4, field.mul(x, s3)) {
             Some(x)
         } else {
             None

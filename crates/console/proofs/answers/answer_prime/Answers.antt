@@ -11,7 +11,7 @@ returns-in-Ok c =
     let p = c.args.p in
     let kept : p ≡ c.new-in-Ok.result.field.modulus = sym (ap (λ f. f.modulus) c.new-in-Ok.ensures ∙ c.in-Ok.ensures.2) in
     subst (λ l. Handled (prime_given p) c.args.input.number (meant l) (unit_on 0 (modular c.new-in-Ok.result.field.modulus) unsealed) (accepted (codes "nonresidue"))) (sym c.in-Nonresidue.is)
-    (inl (subst (λ (m : ℕ). Outcome (prime_given p) (nonresidue c.in-Nonresidue.r) (unit_on 0 (modular m) unsealed) (accepted (codes "nonresidue"))) kept (field_made c.in-Ok.ensures.1)))
+    (inl (subst (λ (m : ℕ). Outcome (prime_given p) (nonresidue c.in-Nonresidue.r) (unit_on 0 (modular m) unsealed) (accepted (codes "nonresidue"))) kept (field_made c.in-Ok.ensures.0 c.in-Ok.ensures.1)))
 
 pub returns-in-Err : goal.returns-in-Err
 returns-in-Err c =
