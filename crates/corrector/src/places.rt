@@ -34,7 +34,7 @@ pub fn find_place<F: Field>(code: &Code<'_, F>, x: F::Elem) -> Option<usize>
     }
 }
 
-// Takes e from the symbol at the place k.
+// Takes e from the symbol at the place k. The block is lent for writing, so no type can keep what is asked of it here.
 pub fn amend<F: Field>(field: &F, block: &mut [F::Elem], k: usize, e: F::Elem)
     requires elements { Elements (F.Field.ops field.now) block.old }
     requires error { In (F.Field.ops field.now) e }

@@ -24,6 +24,7 @@ fn inflict<E: Copy>(block: &mut [E], damage: Damage<E>)
 }
 
 // Writes a block, turns two of its symbols into the given ones, of which either may be the one sent, and corrects it.
+// As `encode`, it asks for room for the checks.
 pub fn round_trip<F: RootedField>(
     code: &Code<'_, F>,
     block: &mut [F::Elem],

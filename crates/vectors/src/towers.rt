@@ -33,7 +33,7 @@ impl fmt::Display for Tally {
     }
 }
 
-// The tallies at the heights 0, 1 and 2 above the field of p.
+// The tallies at the heights 0, 1 and 2 above the field of p, which is made here, as in `fields`.
 pub fn every_root(
     heap: Global,
     p: u32,

@@ -3,7 +3,7 @@ use crate::agreement::Agreement;
 use prime_field::PrimeField;
 use unit::{Open, Sealed, UnitFault};
 
-// Seals a unit with the field of p.
+// Seals a unit with the field of p, which is made here, as in `fields`.
 fn seal(p: u32, r: u32, alpha: u32, length: usize) -> Result<Sealed<PrimeField>, UnitFault> {
     let field = PrimeField::new(p, r).map_err(UnitFault::Field)?;
     Open::new(field)

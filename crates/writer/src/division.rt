@@ -71,7 +71,7 @@ impl<'a, F: Field> Divisor<'a, F> {
         }
     }
 
-    // The remainder of x⁴ times the data.
+    // The remainder of x⁴ times the data, a plain slice by a rule of the project, so its elements are asked for.
     pub fn remainder(&self, symbols: &[F::Elem]) -> Cubic<F::Elem>
         requires { Elements (F.Field.ops self.now.field.now) symbols.now }
         ensures value { Remains (F.Field.ops self.now.field.now) self.now.rest symbols.now result }

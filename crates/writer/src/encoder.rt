@@ -11,6 +11,7 @@ use code::{Code, CodeFault};
 const CHECKS: usize = 4;
 
 // Sets the last four symbols so that the block is a code word.
+// The block is lent for writing, so no type can keep what is asked of it here.
 fn write_checks<F: Field>(code: &Code<'_, F>, block: &mut [F::Elem])
     requires room { 5 ≤ code.now.length }
     requires long { length block.old ≡ code.now.length }
