@@ -27,9 +27,18 @@ lacks_append b [] ys f g k l q = g k l q
 lacks_append b (x ∷ xs) ys f g zero l q = f zero (omega arith) q
 lacks_append b (x ∷ xs) ys f g (suc k) l q = lacks_append b xs ys (λ j m. f (suc j) (omega arith)) g k (omega arith) q
 
+lacks_end : (xs rest : List ℕ) → LacksByte 10 (xs ++ 10 ∷ rest) → ⊥
+lacks_end [] rest f = f zero (omega arith) refl
+lacks_end (x ∷ xs) rest f = lacks_end xs rest (λ j m. f (suc j) (omega arith))
+
 regroup : (h i front rest more : List ℕ) → i ≡ front ++ rest → h ++ (i ++ more) ≡ (h ++ front) ++ (rest ++ more)
 regroup h i front rest more e =
     ap (λ v. h ++ (v ++ more)) e ∙ ap (λ v. h ++ v) (append_assoc front rest more) ∙ sym (append_assoc h front (rest ++ more))
+
+-- a line that ends in the input is no longer held
+pub line_ended : (h i front rest : List ℕ) → i ≡ front ++ 10 ∷ rest → Held (h ++ i) → ⊥
+line_ended h i front rest e held =
+    lacks_end (h ++ front) rest (subst (LacksByte 10) (ap (λ v. h ++ v) e ∙ sym (append_assoc h front (10 ∷ rest))) held.0)
 
 -- the line has more bytes than it may have before its end
 pub continues_too_long : (w w' : Waiting) (i front rest left : List ℕ) (r : Response) → w.ended ≡ false → Held w.held
@@ -92,7 +101,7 @@ abbrev pub Reads : List ℕ → List ℕ → Waiting → List ℕ → Type 0
 Reads input out w rest = (rs : List Response) × (out ≡ flat_map shown rs) × Continues initial input rs w rest
 
 pub reads_one : (input out out' : List ℕ) (w w' : Waiting) (rest left : List ℕ) → Reads input out w rest → WritesOne w rest w' left out out' → Reads input out' w' left
-reads_one input out out' w w' rest left (rs, e, f) (r, (g, _), q) = (
+reads_one input out out' w w' rest left (rs, e, f) (r, (_, g, _), q) = (
   rs ++ r ∷ [],
   q ∙ ap (λ v. v ++ shown r) e ∙ flat_map_more shown [] rs r,
   λ more qs h. subst (Responds initial (input ++ more)) (sym (append_assoc rs (r ∷ []) qs)) (f more (r ∷ qs) (g more qs h)),

@@ -1,8 +1,8 @@
 -- Where a console stands, and what feeding it answers.
-use Rattle.std.specs.Prelude.{◌≡◌, ℕ, ◌<◌, true, List, [], ◌∷◌, ◌++◌, length, vec_items}
+use Rattle.std.specs.Prelude.{◌≡◌, ℕ, ◌<◌, true, false, List, [], ◌∷◌, ◌++◌, length, MatchBool, vec_items}
 use Rattle.std.specs.List.{flat_map}
 use Rattle.console.specs.Conversation.{Response, refused, shown, ends, Answers}
-use Rattle.console.specs.Sessions.{Waiting, Responds, Continues, line_after}
+use Rattle.console.specs.Sessions.{Held, Waiting, Responds, Continues, line_after}
 use Rattle.console.specs.Stages.{position}
 use Rattle.console.specs.declared.console.Console.{Console}
 use Rattle.console.specs.declared.faults.ShiftFault.TheVariants.{Unreadable}
@@ -10,9 +10,13 @@ use Rattle.console.specs.declared.faults.ShiftFault.TheVariants.{Unreadable}
 abbrev pub waiting : Console → Waiting
 waiting c = record { position = position c.stage; ended = c.ended; lines = c.lines; held = vec_items c.held }
 
+-- a response is due: the session goes on, and what is held and the input are no longer one unended line that can be held
+abbrev pub Due : Waiting → List ℕ → Type 0
+Due w input = (w.ended ≡ false) × (Held (w.held ++ input) → ⊥)
+
 -- one line was answered with r, and `rest` of the input is left
 abbrev pub AnswersOne : Waiting → List ℕ → Response → Waiting → List ℕ → Type 0
-AnswersOne w input r w' rest = Continues w input (r ∷ []) w' rest × (length rest < length input)
+AnswersOne w input r w' rest = Due w input × Continues w input (r ∷ []) w' rest × (length rest < length input)
 
 -- the same, with the response written
 abbrev pub WritesOne : Waiting → List ℕ → Waiting → List ℕ → List ℕ → List ℕ → Type 0
@@ -25,6 +29,10 @@ WritesLast w out out' = (rs : List Response) × Responds w [] rs × (out' ≡ ou
 -- the part is held too
 abbrev pub Holds : Waiting → List ℕ → Waiting → Type 0
 Holds w part w' = (w'.position ≡ w.position) × (w'.ended ≡ w.ended) × (w'.lines ≡ w.lines) × (w'.held ≡ w.held ++ part)
+
+-- no response is due: all of the input is held too, as it is part of one line; or the session has ended, and nothing changes
+abbrev pub Waits : Waiting → List ℕ → Waiting → Type 0
+Waits w input w' = Continues w input [] w' [] × MatchBool w.ended (w' ≡ w) (Held (w.held ++ input) × Holds w input w')
 
 -- the line held was answered with r
 pub record AnswersHeld (w w' : Waiting) (r : Response) : Type 0 where

@@ -1,9 +1,9 @@
 // Feeding a console: its input is cut into lines, and each is answered at its end.
 ghost use Rattle.std.specs.Prelude.{◌≡◌, ◌≤◌, ℕ, List, [], ◌∷◌, ◌++◌, length, Decides, IfOk, MatchOption, OnOk};
-ghost use Rattle.console.specs.Consoles.{AnswersHeld, AnswersOne, Holds, RefusesHeld, WritesLast, WritesOne, waiting};
+ghost use Rattle.console.specs.Consoles.{AnswersHeld, AnswersOne, Holds, RefusesHeld, Waits, WritesLast, WritesOne, waiting};
 ghost use Rattle.console.specs.Conversation.{Response, ends};
 ghost use Rattle.console.specs.Replies.{response};
-ghost use Rattle.console.specs.Sessions.{AnsweredOnce, Continues, Output, Responds, initial, line_after, longest};
+ghost use Rattle.console.specs.Sessions.{AnsweredOnce, Output, Responds, initial, line_after, longest};
 ghost use Rattle.std.specs.Str.Iter.{LacksByte};
 
 use crate::answers::answer_line;
@@ -39,7 +39,7 @@ impl Console {
     // Reads up to the end of one line, and answers it. Where no line ends in the piece, all of it is read.
     pub fn feed_line<'a>(&mut self, piece: &'a [u8]) -> Result<Option<Answered<'a>>, AllocError>
         ensures { IfOk result (λ o. MatchOption o
-            (Continues (waiting self.old) piece.now [] (waiting self.new) [])
+            (Waits (waiting self.old) piece.now (waiting self.new))
             (λ a. AnswersOne (waiting self.old) piece.now (response a.reply) (waiting self.new) a.rest.now)) }
     {
         if self.ended {
@@ -148,7 +148,7 @@ impl Console {
         out: &mut Vec<u8>,
     ) -> Result<Option<&'a [u8]>, AllocError>
         ensures { IfOk result (λ o. MatchOption o
-            (Continues (waiting self.old) piece.now [] (waiting self.new) [] × (out.new.items ≡ out.old.items))
+            (Waits (waiting self.old) piece.now (waiting self.new) × (out.new.items ≡ out.old.items))
             (λ rest. WritesOne (waiting self.old) piece.now (waiting self.new) rest.now out.old.items out.new.items)) }
     {
         let Some(answered) = self.feed_line(piece)? else {
