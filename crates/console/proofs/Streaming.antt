@@ -101,7 +101,7 @@ abbrev pub Reads : List ℕ → List ℕ → Waiting → List ℕ → Type 0
 Reads input out w rest = (rs : List Response) × (out ≡ flat_map shown rs) × Continues initial input rs w rest
 
 pub reads_one : (input out out' : List ℕ) (w w' : Waiting) (rest left : List ℕ) → Reads input out w rest → WritesOne w rest w' left out out' → Reads input out' w' left
-reads_one input out out' w w' rest left (rs, e, f) (r, (_, g, _), q) = (
+reads_one input out out' w w' rest left (rs, e, f) (r, (_, g, _, _), q) = (
   rs ++ r ∷ [],
   q ∙ ap (λ v. v ++ shown r) e ∙ flat_map_more shown [] rs r,
   λ more qs h. subst (Responds initial (input ++ more)) (sym (append_assoc rs (r ∷ []) qs)) (f more (r ∷ qs) (g more qs h)),

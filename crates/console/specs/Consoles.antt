@@ -1,6 +1,7 @@
 -- Where a console stands, and what feeding it answers.
 use Rattle.std.specs.Prelude.{◌≡◌, ℕ, ◌<◌, true, false, List, [], ◌∷◌, ◌++◌, length, MatchBool, vec_items}
 use Rattle.std.specs.List.{flat_map}
+use Rattle.std.specs.Str.Iter.{LacksByte}
 use Rattle.console.specs.Conversation.{Response, refused, shown, ends, Answers}
 use Rattle.console.specs.Sessions.{Held, Waiting, Responds, Continues, line_after}
 use Rattle.console.specs.Stages.{position}
@@ -14,9 +15,14 @@ waiting c = record { position = position c.stage; ended = c.ended; lines = c.lin
 abbrev pub Due : Waiting → List ℕ → Type 0
 Due w input = (w.ended ≡ false) × (Held (w.held ++ input) → ⊥)
 
--- one line was answered with r, and `rest` of the input is left
+-- nothing is held, and `rest` is what follows the first byte 10 of the input
+abbrev pub Resumes : List ℕ → Waiting → List ℕ → Type 0
+Resumes input w' rest = (w'.held ≡ []) × (front : List ℕ) × LacksByte 10 front × (input ≡ front ++ 10 ∷ rest)
+
+-- one line was answered with r; where the session goes on, it does so after the end of this line
 abbrev pub AnswersOne : Waiting → List ℕ → Response → Waiting → List ℕ → Type 0
-AnswersOne w input r w' rest = Due w input × Continues w input (r ∷ []) w' rest × (length rest < length input)
+AnswersOne w input r w' rest =
+    Due w input × Continues w input (r ∷ []) w' rest × (length rest < length input) × (w'.ended ≡ false → Resumes input w' rest)
 
 -- the same, with the response written
 abbrev pub WritesOne : Waiting → List ℕ → Waiting → List ℕ → List ℕ → List ℕ → Type 0

@@ -16,6 +16,7 @@ returns-then-not-has_room c =
       continues_too_long w (waiting c.refuse_held.new.self) piece piece [] (take (length piece - length piece) (drop (length piece) piece))
           (response c.refuse_held.result) c.if-self.false c.args.self.now.line (sym (append-nil piece)) c.in_default.ensures long c.refuse_held.ensures,
       simp (length-take, length-drop) (omega (arith, long, length-append (vec_items c.args.self.now.held) piece, c.args.self.now.line.1)),
+      λ going. absurd (cc (going, c.refuse_held.ensures.ended)),
     )
 
 pub returns-then-not-has_room-2 : goal.returns-then-not-has_room-2
@@ -28,6 +29,7 @@ returns-then-not-has_room-2 c =
           (response c.refuse_held-then-not-has_room-2.result) c.if-self.false c.args.self.now.line c.in-Some.ensures.1 c.in-Some.ensures.0 long
           c.refuse_held-then-not-has_room-2.ensures,
       shorter c.args.piece.now c.in-Some.front.now c.in-Some.rest.now c.in-Some.ensures.1,
+      λ going. absurd (cc (going, c.refuse_held-then-not-has_room-2.ensures.ended)),
     )
 
 pub returns : goal.returns
@@ -38,4 +40,5 @@ returns c =
           (response c.in_ok-reply.reply) c.if-self.false c.args.self.now.line c.in-Some.ensures.1 c.in-Some.ensures.0
           (c.if-not-has_room-2.ensures.0 refl) c.in_ok-keep-2.ensures c.in_ok-reply.ensures,
       shorter c.args.piece.now c.in-Some.front.now c.in-Some.rest.now c.in-Some.ensures.1,
+      λ _. (c.in_ok-reply.ensures.held, c.in-Some.front.now, c.in-Some.ensures.0, c.in-Some.ensures.1),
     )
