@@ -35,7 +35,7 @@ module _ {E : Type 0} {o : Ops E} {α : E} {n : ℕ} {block : List E} {s : Syndr
         changed = sym k.count;
       }
 
-  uncorrected : (after : List E) (fault : CodeFault) → after ≡ block → fault ≡ NoCodeWord
+  pub uncorrected : (after : List E) (fault : CodeFault) → after ≡ block → fault ≡ NoCodeWord
       → ((word : List E) → CodeWord₁ o α (length block) word → 2 < differ o block word) → Uncorrected o α n block after fault
   uncorrected after fault kept told far = record {
     kept = kept;

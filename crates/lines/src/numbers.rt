@@ -5,6 +5,7 @@ ghost use Rattle.lines.specs.Numbers.{numeral, spelled, Fits32, NumberList, Read
 use std::alloc::{AllocError, Global};
 use std::fmt;
 use std::fmt::{Display, Formatter};
+use std::io::Write;
 use std::str::from_utf8;
 
 // Numbers that are shown with commas between them.
@@ -26,12 +27,11 @@ impl Display for Numbers<'_> {
     }
 }
 
-// Appends what the value shows. By way of a text, since `write!` to a `Vec` would fail with another error.
+// Appends what the value shows, with no text made first. Each error is told as want of memory, the only one that a `Vec` has.
 pub fn put<T: Display>(out: &mut Vec<u8>, value: &T) -> Result<(), AllocError>
     ensures { OnOk result (IfSome (T.output value.now) (λ text. out.new.items ≡ out.old.items ++ text)) }
 {
-    let text = value.to_string(*out.allocator())?;
-    out.extend_from_slice(text.as_bytes())
+    write!(out, "{value}").map_err(|_| AllocError)
 }
 
 // Appends the decimal digits of `v`.

@@ -73,14 +73,14 @@ module _ {E : Type 0} (o : Ops E) (α : E) (n : ℕ) (h : List (Event E)) (e : E
     left_kept (released _ _ _ _ b) _ = b
     left_kept (taken k _ _ _ a _) not_taken = absurd (not_taken (k, ap is_ok a))
 
-    block_law : Transition o α n p q e → BlockLaw o α n h e
+    pub block_law : Transition o α n p q e → BlockLaw o α n h e
     block_law t = record {
       taken = λ k. of_kind k (subst Rule k (rule t)).0;
       corrected = λ c k a. (subst Rule k (rule t)).1 c a;
       kept = left_kept t;
     }
 
-    order_law : Transition o α n p q e → OrderLaw h e
+    pub order_law : Transition o α n p q e → OrderLaw h e
     order_law t = record {
       opening = λ k. of_kind k (subst Rule k (rule t));
       engage = λ k. of_kind k (subst Rule k (rule t));

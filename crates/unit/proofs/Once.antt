@@ -20,8 +20,8 @@ use Rattle.unit.specs.declared.states.Kind.TheVariants.{Open, Block, Engage, Rel
 use Rattle.unit.specs.declared.states.State.{State}
 use Rattle.unit.specs.declared.states.State.TheVariants.{Parked, Loading, Ready, Steering}
 
--- reports are equal where its state and its numbers are: the facts beside them have one proof each
-progress_equal : (p q : Progress) → p.state ≡ q.state → p.named ≡ q.named → p.taken ≡ q.taken → p.changed ≡ q.changed → p ≡ q
+-- progress is equal where its state and its numbers are: the facts beside them have one proof each
+pub progress_equal : (p q : Progress) → p.state ≡ q.state → p.named ≡ q.named → p.taken ≡ q.taken → p.changed ≡ q.changed → p ≡ q
 progress_equal p q s a b c i = record {
   state = s i;
   named = a i;
@@ -34,7 +34,7 @@ progress_equal p q s a b c i = record {
   full = is_prop→PathP (λ j. s j ≡ Ready → b j ≡ a j) (λ j. hlevel props) p.full q.full i;
 }
 
-stands_once : {p q : Progress} {s : State} {m t c : ℕ} → Stands p s m t c → Stands q s m t c → p ≡ q
+pub stands_once : {p q : Progress} {s : State} {m t c : ℕ} → Stands p s m t c → Stands q s m t c → p ≡ q
 stands_once {p} {q} h k = progress_equal p q (cc) (cc) (cc) (cc)
 
 advances_once : {p q q' : Progress} {c : ℕ} → p.state ≡ Loading → Advances p q c → Advances p q' c → q ≡ q'

@@ -13,7 +13,7 @@ use Rattle.unit.specs.declared.states.State.{State}
 use Rattle.unit.specs.declared.states.State.TheVariants.{Parked, Loading, Ready, Steering}
 use Rattle.unit.proofs.Summary.{parked_not_loads, refused_not_accepted, Summary, turn_from, grant_from, summary}
 
--- the counts of the report are those of the day
+-- the counts of the progress are those of the day
 abbrev Tallied : {E : Type 0} → List (Event E) → Progress → Type 0
 Tallied h p = Tally h p.named p.taken p.changed
 
@@ -45,12 +45,12 @@ module _ {E : Type 0} {h : List (Event E)} {e : Event E} where
   next_tally (granted k _ _ w _) t = stands w (tally_same (λ x. cc) (λ x. cc) t)
   next_tally (released k _ _ w _) t = stands w (tally_same (λ x. cc) (λ x. cc) t)
 
-tally : {E : Type 0} {o : Ops E} {α : E} {n : ℕ} {h : List (Event E)} {p : Progress} → Lived o α n h p → Tallied h p
+pub tally : {E : Type 0} {o : Ops E} {α : E} {n : ℕ} {h : List (Event E)} {p : Progress} → Lived o α n h p → Tallied h p
 tally (sealed s) = stands s (unopened tt)
 tally (ordered l t) = next_tally t (tally l)
 
 -- the state of a unit is that of the day
-in_state : {E : Type 0} {h : List (Event E)} {p : Progress} → Summary h p → (s : State) → p.state ≡ s → InState h s
+pub in_state : {E : Type 0} {h : List (Event E)} {p : Progress} → Summary h p → (s : State) → p.state ≡ s → InState h s
 in_state v Parked q = (λ x. let is = v.steering.0 x in cc, λ m c x. parked_not_loads q ((v.loaded m c).0 x).0)
 in_state {p = p} v Loading q = (p.taken, turn_from v q)
 in_state v Ready q = grant_from v q

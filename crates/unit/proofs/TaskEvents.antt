@@ -18,7 +18,7 @@ events_more none c = next c none
 events_more (next a r) c = next a (events_more r c)
 
 -- one more task
-carried_more : {F E : Type 0} {m : Ghosts F E} {u v w : Sealed F E m} {ts xs : List (Task E)} {t x : Task E} {e : Event E}
+pub carried_more : {F E : Type 0} {m : Ghosts F E} {u v w : Sealed F E m} {ts xs : List (Task E)} {t x : Task E} {e : Event E}
     → Carried u v ts xs → Ordered v w e → Came t x e → Carried u w (ts ++ t ∷ []) (xs ++ x ∷ [])
 carried_more {ts = ts} {xs = xs} {t = t} {x = x} {e = e} c o came = record {
   same = record {
@@ -51,7 +51,7 @@ events_once none none = refl
 events_once (next a r) (next b s) = ap₂ (λ x xs. x ∷ xs) (came_once a b) (events_once r s)
 
 -- tasks make one day
-day_once : {E : Type 0} {ts us : List (Task E)} (g h : List (Event E)) → Day ts us g → Day ts us h → g ≡ h
+pub day_once : {E : Type 0} {ts us : List (Task E)} (g h : List (Event E)) → Day ts us g → Day ts us h → g ≡ h
 day_once g h a b = sym (reverse-reverse g) ∙ ap reverse (events_once a b) ∙ reverse-reverse h
 
 -- a unit that was sealed and then carried out the tasks has worked their day

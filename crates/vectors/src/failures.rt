@@ -2,15 +2,25 @@
 use algebra::{FieldFault, RootedField};
 use quadratic::Unextended;
 use std::alloc::AllocError;
-use std::io;
+use std::{fmt, io};
 use unit::{Rejected, UnitFault};
 
-#[derive(Debug, Drop)]
+#[derive(Drop)]
 pub enum Failure {
     // There is no memory, or no output.
     Io(io::Error),
     // A field or a unit that values are executed with is refused.
     Refused(UnitFault),
+}
+
+// Told as what it holds, so that an output that fails ends the program with the error alone.
+impl fmt::Debug for Failure {
+    fn fmt<W: fmt::Write>(&self, f: &mut fmt::Formatter<W>) -> fmt::Result {
+        match self {
+            Failure::Io(error) => fmt::Debug::fmt(error, f),
+            Failure::Refused(fault) => fmt::Debug::fmt(fault, f),
+        }
+    }
 }
 
 impl From<io::Error> for Failure {

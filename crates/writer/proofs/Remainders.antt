@@ -62,16 +62,16 @@ module _ {E : Type 0} {o : Ops E} (l : Arithmetic o) where
       (times l (neg (r.c3 ⊹ s)) root (search reads depth 40 fits 5000) (search reads depth 40 fits 5000) ∷ []) (search reads depth 40 fits 5000) refl
 
   module _ (a b c d : E) (ha : In o a) (hb : In o b) (hc : In o c) (hd : In o d) where
-    root_a : Root o (four_roots o a b c d) a
+    pub root_a : Root o (four_roots o a b c d) a
     root_a = by_ring l ((a, ha) ∷ (b, hb) ∷ (c, hc) ∷ (d, hd) ∷ []) (search reads depth 40 fits 5000) refl
 
-    root_b : Root o (four_roots o a b c d) b
+    pub root_b : Root o (four_roots o a b c d) b
     root_b = by_ring l ((a, ha) ∷ (b, hb) ∷ (c, hc) ∷ (d, hd) ∷ []) (search reads depth 40 fits 5000) refl
 
-    root_c : Root o (four_roots o a b c d) c
+    pub root_c : Root o (four_roots o a b c d) c
     root_c = by_ring l ((a, ha) ∷ (b, hb) ∷ (c, hc) ∷ (d, hd) ∷ []) (search reads depth 40 fits 5000) refl
 
-    root_d : Root o (four_roots o a b c d) d
+    pub root_d : Root o (four_roots o a b c d) d
     root_d = by_ring l ((a, ha) ∷ (b, hb) ∷ (c, hc) ∷ (d, hd) ∷ []) (search reads depth 40 fits 5000) refl
 
   -- the cubic that is made of the points of a code has them as roots
